@@ -19,7 +19,7 @@ use Rattle.aggregate_model.specs.Pipeline.{run}
 use Rattle.aggregate_model.specs.Group.{Grouping}
 use Rattle.aggregate_model.specs.Stage.{Stage, match_stage, group_stage, sort_stage, skip_stage, limit_stage}
 use Rattle.aggregate_model.specs.Stages.{apply_stage}
-use Rattle.aggregate_model.specs.Taking.{takes_by, takes, behind_if_match, behind_match, run_behind_groups, Suffices, SufficesTaken, IsEnough}
+use Rattle.aggregate_model.specs.Taking.{takes_by, takes, behind_if_match, behind_match, run_behind_groups, FirstAreEnough, SufficesTaken, IsEnough}
 use Rattle.aggregate_model.specs.TakingLaws.{all_pass}
 
 -- ---- fronts and backs of lists
@@ -50,11 +50,11 @@ passes s stages limit ds xs e h =
 
 -- ---- how many are enough
 
-pub limit_suffices : (stages : List Stage) (n : ℕ) → Suffices (limit_stage n ∷ stages) n
+pub limit_suffices : (stages : List Stage) (n : ℕ) → FirstAreEnough (limit_stage n ∷ stages) n
 limit_suffices stages n limit ds e =
     ap (λ (xs : List Pairs). (Ok xs >>= within_limits limit) >>= run stages limit) (take-take n n ds (omega arith))
 
-pub skip_suffices : (stages : List Stage) (n m : ℕ) → Suffices stages m → Suffices (skip_stage n ∷ stages) (n + m)
+pub skip_suffices : (stages : List Stage) (n m : ℕ) → FirstAreEnough stages m → FirstAreEnough (skip_stage n ∷ stages) (n + m)
 skip_suffices stages n m behind limit ds e =
     let rest = All-drop (λ d. limit_fault limit d ≡ None) n ds (fault-within limit ds e) in
     let first = passes (skip_stage n) stages limit (take (n + m) ds) (take m (drop n ds)) (ap (λ (xs : List Pairs). Ok xs) (drop-take n m ds))
@@ -62,16 +62,18 @@ skip_suffices stages n m behind limit ds e =
     let second = passes (skip_stage n) stages limit ds (drop n ds) refl rest in
     first ∙ behind limit (drop n ds) (within-fault limit (drop n ds) rest) ∙ sym second
 
-pub skip_enough : (stages behind : List Stage) (skipped most : ℕ) (total : Option ℕ) (P : Type 0) → stages ≡ skip_stage skipped ∷ behind → Suffices behind most
-    → SomeIff total P (most + skipped) → IfSome total (λ n. Suffices stages n)
+pub skip_enough : (stages behind : List Stage) (skipped most : ℕ) (total : Option ℕ) (P : Type 0) → stages ≡ skip_stage skipped ∷ behind
+    → FirstAreEnough behind most
+    → SomeIff total P (most + skipped) → IfSome total (λ n. FirstAreEnough stages n)
 skip_enough stages behind skipped most None P is enough sum = tt
 skip_enough stages behind skipped most (Some n) P is enough sum =
     let same : skipped + most ≡ n = omega (arith, sum.1) in
-    subst (λ (k : ℕ). Suffices stages k) same (subst (λ (ss : List Stage). Suffices ss (skipped + most)) (sym is) (skip_suffices behind skipped most enough))
+    subst (λ (k : ℕ). FirstAreEnough stages k) same
+    (subst (λ (ss : List Stage). FirstAreEnough ss (skipped + most)) (sym is) (skip_suffices behind skipped most enough))
 
 -- ---- of those that a pipeline takes
 
-by_match : (s : Stage) (stages : List Stage) (most : ℕ) → Suffices (behind_if_match s stages) most → SufficesTaken (s ∷ stages) most
+by_match : (s : Stage) (stages : List Stage) (most : ℕ) → FirstAreEnough (behind_if_match s stages) most → SufficesTaken (s ∷ stages) most
 by_match (match_stage rules) stages most behind limit ds e =
     let found = filter (matches rules) ds in
     let all = All-filter (λ d. limit_fault limit d ≡ None) (matches rules) ds (fault-within limit ds e) in
@@ -85,14 +87,14 @@ by_match (match_stage rules) stages most behind limit ds e =
 by_match other stages most behind limit ds e =
     ap (λ (xs : List Pairs). run (other ∷ stages) limit (take most xs)) (all_pass ds) ∙ behind limit ds e
 
-pub suffices_taken : (stages : List Stage) (most : ℕ) → Suffices (behind_match stages) most → SufficesTaken stages most
+pub suffices_taken : (stages : List Stage) (most : ℕ) → FirstAreEnough (behind_match stages) most → SufficesTaken stages most
 suffices_taken [] most behind = λ limit ds e. ap (λ (xs : List Pairs). run [] limit (take most xs)) (all_pass ds) ∙ behind limit ds e
 suffices_taken (s ∷ stages) most behind = by_match s stages most behind
 
-pub most_taken : (stages behind : List Stage) (most : Option ℕ) → behind ≡ behind_match stages → IfSome most (λ n. Suffices behind n)
+pub most_taken : (stages behind : List Stage) (most : Option ℕ) → behind ≡ behind_match stages → IfSome most (λ n. FirstAreEnough behind n)
     → IfSome most (λ n. SufficesTaken stages n)
 most_taken stages behind None is h = tt
-most_taken stages behind (Some n) is h = suffices_taken stages n (subst (λ (ss : List Stage). Suffices ss n) is h)
+most_taken stages behind (Some n) is h = suffices_taken stages n (subst (λ (ss : List Stage). FirstAreEnough ss n) is h)
 
 -- ---- a `$group` in front
 
@@ -114,7 +116,7 @@ groups_taken (s ∷ stages) behind g is limit ds e = by_group s stages behind g 
 
 -- ---- the first ones in the order of a sort
 
-module _ (in_parts : SortsInParts) (fields : List SortField) (behind : List Stage) (most : ℕ) (enough : Suffices behind most) where
+module _ (in_parts : SortsInParts) (fields : List SortField) (behind : List Stage) (most : ℕ) (enough : FirstAreEnough behind most) where
   abbrev first_of : List Pairs → List Pairs
   first_of these = take most (order fields these)
 

@@ -7,7 +7,7 @@ ghost use Rattle.std.specs.List.{filter};
 ghost use Rattle.aggregate_model.specs.Limits.{first_fault};
 ghost use Rattle.aggregate_model.specs.Pipeline.{run};
 ghost use Rattle.aggregate.specs.GroupView.{grouping_of};
-ghost use Rattle.aggregate_model.specs.Taking.{takes, behind_match, groups_first, leading_match, run_behind_groups, KeepsFirst, Suffices, SufficesTaken, IsEnough};
+ghost use Rattle.aggregate_model.specs.Taking.{takes, behind_match, groups_first, leading_match, run_behind_groups, KeepsFirst, FirstAreEnough, SufficesTaken, IsEnough};
 ghost use Rattle.aggregate.specs.View.{stage_of, pipeline_of};
 
 use crate::pipeline::Pipeline;
@@ -38,7 +38,7 @@ pub(crate) fn behind_match(stages: &[Stage]) -> &[Stage]
 
 /// How many of the first documents are enough for the stages, where a `$limit` says so.
 fn enough(stages: &[Stage]) -> Option<usize>
-    ensures { IfSome result (λ most. Suffices (map stage_of stages.now) most) }
+    ensures { IfSome result (λ most. FirstAreEnough (map stage_of stages.now) most) }
 {
     match stages.split_first() {
         Some((Stage::Limit(most), _)) => Some(*most),

@@ -60,8 +60,8 @@ abbrev pub run_behind_groups : Grouping → List Stage → ℕ → List Pairs �
 run_behind_groups g stages limit ds = (grouped g ds >>= within_limits limit) >>= run stages limit
 
 -- Of documents within the limits the first ones up to this number are enough.
-abbrev pub Suffices : List Stage → ℕ → Type 0
-Suffices stages most = (limit : ℕ) (ds : List Pairs) → first_fault limit ds ≡ None
+abbrev pub FirstAreEnough : List Stage → ℕ → Type 0
+FirstAreEnough stages most = (limit : ℕ) (ds : List Pairs) → first_fault limit ds ≡ None
     → run stages limit (take most ds) ≡ run stages limit ds
 
 -- the same of those that the pipeline takes

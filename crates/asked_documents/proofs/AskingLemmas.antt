@@ -16,10 +16,10 @@ use Rattle.asked_documents.proofs.ReadingLemmas.{goes_itself}
 module _ {D A X : Type 0} (history : D → History) (Is : List Collection → A → Type 0) (Q : List Collection → A → X → Type 0) (old : State D) where
   pub asks_stopped : is_stopped old ≡ true → ReadsOf history Is Q (Err refusals.StorageFailed) old old
   asks_stopped stopped = record
-      { on = goes_itself history old; unchanged = refl; same = λ start now has. has; answers = λ k start now has asked is. inr (refl, inl stopped) }
+      { extends = goes_itself history old; unchanged = refl; same = λ start now has. has; answers = λ k start now has asked is. inr (refl, inl stopped) }
 
   pub asks_memory : (e : Refusal) → e ≡ refusals.OutOfMemory → ReadsOf history Is Q (Err e) old old
-  asks_memory e is = record { on = goes_itself history old; unchanged = refl; same = λ start now has. has; answers = λ k start now has asked so. inl is }
+  asks_memory e is = record { extends = goes_itself history old; unchanged = refl; same = λ start now has. has; answers = λ k start now has asked so. inl is }
 
 -- a vector that is empty has no items
 pub none_there : {X : Type 0} (v : Vec X) → (v.len == 0) ≡ true → v.items ≡ []

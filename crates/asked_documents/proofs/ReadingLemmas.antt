@@ -8,7 +8,7 @@ use Rattle.path.specs.declared.refusal.Refusal.{Refusal}
 use Rattle.path.specs.declared.refusal.Refusal.TheVariants as refusals
 use Rattle.entries.specs.LawfulState.{IsLawfulState}
 use Rattle.entries.specs.State.{Collection}
-use Rattle.collections.specs.Calls.{GoesFrom, HasReadCause, IsOfFile}
+use Rattle.collections.specs.Calls.{ExtendsTurn, HasReadCause, IsOfFile}
 use Rattle.collections.specs.Reading.{ReadsOf}
 use Rattle.collections.specs.Standing.{IsTurnOf}
 use Rattle.collections.specs.State.{State}
@@ -17,18 +17,19 @@ use Rattle.collections.proofs.StandingLemmas.{stopped_same}
 
 -- ---- a cause between two moments is one between moments around them
 
-pub goes_itself : {D : Type 0} (history : D → History) (c : State D) → GoesFrom history c c
+pub goes_itself : {D : Type 0} (history : D → History) (c : State D) → ExtendsTurn history c c
 goes_itself history c = grows_itself (pages_of history c)
 
-pub goes_on : {D : Type 0} (history : D → History) (a b c : State D) → GoesFrom history a b → GoesFrom history b c → GoesFrom history a c
+pub goes_on : {D : Type 0} (history : D → History) (a b c : State D) → ExtendsTurn history a b → ExtendsTurn history b c → ExtendsTurn history a c
 goes_on history a b c = grows_trans (pages_of history a) (pages_of history b) (pages_of history c)
 
 -- the word that the disk keeps now it kept before
-pub word_before : {D : Type 0} (history : D → History) (a b : State D) → GoesFrom history a b → KeepsWord (disk_history history b)
+pub word_before : {D : Type 0} (history : D → History) (a b : State D) → ExtendsTurn history a b → KeepsWord (disk_history history b)
     → KeepsWord (disk_history history a)
-word_before history a b goes k = (goes.frame k).word
+word_before history a b continues k = (continues.frame k).word
 
-module _ {D : Type 0} (history : D → History) (a b c d : State D) (early : GoesFrom history a b) (within : GoesFrom history b c) (late : GoesFrom history c d)
+module _ {D : Type 0} (history : D → History) (a b c d : State D) (early : ExtendsTurn history a b) (within : ExtendsTurn history b c)
+    (late : ExtendsTurn history c d)
     (k : KeepsWord (disk_history history d)) where
   third : Frame (pages_of history c) (pages_of history d)
   third = late.frame k
@@ -45,7 +46,7 @@ module _ {D : Type 0} (history : D → History) (a b c d : State D) (early : Goe
   widen e (inr (is, inr failed)) = inr (is, inr (omega (arith, first.failures, failed, third.failures)))
 
 -- only what came before is added, or only what came after
-module _ {D : Type 0} (history : D → History) (a b c : State D) (early : GoesFrom history a b) (late : GoesFrom history b c)
+module _ {D : Type 0} (history : D → History) (a b c : State D) (early : ExtendsTurn history a b) (late : ExtendsTurn history b c)
     (k : KeepsWord (disk_history history c)) where
   pub widen_before : (e : Refusal) → HasReadCause history b c e → HasReadCause history a c e
   widen_before = widen history a b c c early late (goes_itself history c) k
@@ -76,13 +77,13 @@ module _ {D A B X : Type 0} (history : D → History) (Is : List Collection → 
 
   pub reads_as : (old new : State D) (r : Result X Refusal) → is_stopped old ≡ false → ReadsOf history Was P r old new
       → ((now : List Collection) → IsLawfulState now → (asked : A) → Is now asked → IsOther Was P R now asked) → ReadsOf history Is R r old new
-  reads_as old new r running reads on = record {
-    on = reads.on;
+  reads_as old new r running reads extends = record {
+    extends = reads.extends;
     unchanged = reads.unchanged;
     same = reads.same;
     answers = λ k start now has asked is.
-        let t : IsTurnOf history old start now = has running (word_before history old new reads.on k) in
-        let o = on now t.now_state asked is in
+        let t : IsTurnOf history old start now = has running (word_before history old new reads.extends k) in
+        let o = extends now t.now_state asked is in
         either_read old new r now asked o (reads.answers k start now has o.other o.was);
   }
 
@@ -90,19 +91,19 @@ module _ {D A B X : Type 0} (history : D → History) (Is : List Collection → 
 pub reads_within : {D A X : Type 0} (history : D → History) (Is Was : List Collection → A → Type 0) (P R : List Collection → A → X → Type 0)
     (old new : State D) (r : Result X Refusal) → ReadsOf history Was P r old new → ((now : List Collection) (asked : A) → Is now asked → Was now asked)
     → ((now : List Collection) (asked : A) (x : X) → Is now asked → P now asked x → R now asked x) → ReadsOf history Is R r old new
-reads_within history Is Was P R old new r reads was on = record {
-  on = reads.on;
+reads_within history Is Was P R old new r reads was extends = record {
+  extends = reads.extends;
   unchanged = reads.unchanged;
   same = reads.same;
   answers = λ k start now has asked is.
-      either_read history Is Was P R old new r now asked (record { other = asked; was = was now asked is; right = λ x right. on now asked x is right })
+      either_read history Is Was P R old new r now asked (record { other = asked; was = was now asked is; right = λ x right. extends now asked x is right })
       (reads.answers k start now has asked (was now asked is));
 }
 
 -- what was read before tells what is asked for next
 module _ {D A B X Y : Type 0} (history : D → History) (Is : List Collection → A → Type 0) (P : List Collection → A → X → Type 0) (Was : List Collection → B
     → Type 0) (Q : List Collection → B → Y → Type 0) (R : List Collection → A → Y → Type 0) where
-  either_behind : (a b c : State D) → GoesFrom history a b → GoesFrom history b c → KeepsWord (disk_history history c)
+  either_behind : (a b c : State D) → ExtendsTurn history a b → ExtendsTurn history b c → KeepsWord (disk_history history c)
       → (r : Result Y Refusal) (now : List Collection) (asked : A) (o : IsOther Was Q R now asked)
       → MatchResult r (Q now o.other) (HasReadCause history b c) → MatchResult r (R now asked) (HasReadCause history a c)
   either_behind a b c early late k (Ok y) now asked o right = o.right y right
@@ -110,56 +111,56 @@ module _ {D A B X Y : Type 0} (history : D → History) (Is : List Collection �
 
   pub reads_behind : (a b c : State D) (x : X) (r : Result Y Refusal) → ReadsOf history Is P (Ok x) a b → ReadsOf history Was Q r b c
       → ((now : List Collection) (asked : A) → Is now asked → P now asked x → IsOther Was Q R now asked) → ReadsOf history Is R r a c
-  reads_behind a b c x r first second on = record {
-    on = goes_on history a b c first.on second.on;
+  reads_behind a b c x r first second extends = record {
+    extends = goes_on history a b c first.extends second.extends;
     unchanged = second.unchanged ∙ first.unchanged;
     same = λ start now has. second.same start now (first.same start now has);
     answers = λ k start now has asked is.
-        let o = on now asked is (first.answers (word_before history b c second.on k) start now has asked is) in
-        either_behind a b c first.on second.on k r now asked o (second.answers k start now (first.same start now has) o.other o.was);
+        let o = extends now asked is (first.answers (word_before history b c second.extends k) start now has asked is) in
+        either_behind a b c first.extends second.extends k r now asked o (second.answers k start now (first.same start now has) o.other o.was);
   }
 
 -- a refusal is one whatever was to be read
 pub reads_refused : {D A X Y : Type 0} (history : D → History) (Is : List Collection → A → Type 0) (P : List Collection → A → X → Type 0) (R : List Collection
     → A → Y → Type 0) (old new : State D) (e : Refusal) → ReadsOf history Is P (Err e) old new → ReadsOf history Is R (Err e) old new
-reads_refused history Is P R old new e reads = record { on = reads.on; unchanged = reads.unchanged; same = reads.same; answers = reads.answers }
+reads_refused history Is P R old new e reads = record { extends = reads.extends; unchanged = reads.unchanged; same = reads.same; answers = reads.answers }
 
 -- what is made of what was read, unless memory runs out
 pub reads_made : {D A X Y : Type 0} (history : D → History) (Is : List Collection → A → Type 0) (P : List Collection → A → X → Type 0) (R : List Collection → A
     → Y → Type 0) (old new : State D) (x : X) (y : Y) → ReadsOf history Is P (Ok x) old new
     → ((now : List Collection) (asked : A) → Is now asked → P now asked x → R now asked y) → ReadsOf history Is R (Ok y) old new
-reads_made history Is P R old new x y reads on = record {
-  on = reads.on;
+reads_made history Is P R old new x y reads extends = record {
+  extends = reads.extends;
   unchanged = reads.unchanged;
   same = reads.same;
-  answers = λ k start now has asked is. on now asked is (reads.answers k start now has asked is);
+  answers = λ k start now has asked is. extends now asked is (reads.answers k start now has asked is);
 }
 
 -- the same, of lawful collections
 pub reads_told : {D A X Y : Type 0} (history : D → History) (Is : List Collection → A → Type 0) (P : List Collection → A → X → Type 0) (R : List Collection
     → A → Y → Type 0) (old new : State D) (x : X) (y : Y) → is_stopped old ≡ false → ReadsOf history Is P (Ok x) old new
     → ((now : List Collection) → IsLawfulState now → (asked : A) → Is now asked → P now asked x → R now asked y) → ReadsOf history Is R (Ok y) old new
-reads_told history Is P R old new x y running reads on = record {
-  on = reads.on;
+reads_told history Is P R old new x y running reads extends = record {
+  extends = reads.extends;
   unchanged = reads.unchanged;
   same = reads.same;
   answers = λ k start now has asked is.
-      let t : IsTurnOf history old start now = has running (word_before history old new reads.on k) in
-      on now t.now_state asked is (reads.answers k start now has asked is);
+      let t : IsTurnOf history old start now = has running (word_before history old new reads.extends k) in
+      extends now t.now_state asked is (reads.answers k start now has asked is);
 }
 
 pub reads_memory : {D A X Y : Type 0} (history : D → History) (Is : List Collection → A → Type 0) (P : List Collection → A → X → Type 0) (R : List Collection
     → A → Y → Type 0) (r : Result X Refusal) (old new : State D) (e : Refusal) → e ≡ refusals.OutOfMemory → ReadsOf history Is P r old new
     → ReadsOf history Is R (Err e) old new
 reads_memory history Is P R r old new e is reads = record
-    { on = reads.on; unchanged = reads.unchanged; same = reads.same; answers = λ k start now has asked so. inl is }
+    { extends = reads.extends; unchanged = reads.unchanged; same = reads.same; answers = λ k start now has asked so. inl is }
 
 -- nothing was read
 pub reads_none : {D A X : Type 0} (history : D → History) (Is : List Collection → A → Type 0) (R : List Collection → A → X → Type 0) (old : State D) (x : X)
     → is_stopped old ≡ false
     → ((now : List Collection) → IsLawfulState now → (asked : A) → Is now asked → R now asked x) → ReadsOf history Is R (Ok x) old old
 reads_none history Is R old x running right = record {
-  on = goes_itself history old;
+  extends = goes_itself history old;
   unchanged = refl;
   same = λ start now has. has;
   answers = λ k start now has asked is. let t : IsTurnOf history old start now = has running k in right now t.now_state asked is;

@@ -1,6 +1,6 @@
 //! Which documents of a collection a command looks for: filters, and `_id`s that tell of others.
 #![tactic(auto)]
 
-mod selects;
+mod document_predicate;
 
-pub use selects::Selects;
+pub use document_predicate::DocumentPredicate;

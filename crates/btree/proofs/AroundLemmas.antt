@@ -2,16 +2,16 @@
 use Rattle.std.proofs.Common.{◌≡◌, ℕ, zero, suc, ◌+◌, ◌-◌, ◌<◌, ◌≤◌, take, drop, get_or, List, [], ◌∷◌, ◌++◌, length, map, Option, Some}
 use Rattle.std.proofs.Common.{Result, Ok, Err, refl, sym, ap, ◌∙◌, subst, arith, inl, inr, append-nil, append_assoc}
 use Rattle.page.specs.ChildPage.{exchanged}
-use Rattle.page.specs.Content.{Arm}
-use Rattle.btree.specs.declared.loose.Loose.{Loose}
+use Rattle.page.specs.Content.{Pivot}
+use Rattle.btree.specs.declared.node.LooseNode.{LooseNode}
 use Rattle.btree.specs.declared.pages.TreeFault.{TreeFault}
 use Rattle.btree.specs.Change.{IsBehind}
 use Rattle.btree.specs.Keys.{Each, Entry, IsBetween, IsNotUnder, times}
-use Rattle.btree.specs.Loose.{IsSpread, IsStub, Stub, arm_stub, first_or, pair_stub, stub_keys, stubs_of, twig_stub, under_key}
-use Rattle.btree.specs.OneChild.{IsAmid, IsAround, stubs_between}
+use Rattle.btree.specs.Loose.{IsSpread, IsSlot, Slot, pivot_slot, first_or, pair_slot, slot_keys, slots_of, subtree_slot, under_key}
+use Rattle.btree.specs.OneChild.{IsAmid, IsAround, slots_between}
 use Rattle.btree.specs.Store.{Frame, HasCause, Store}
-use Rattle.btree.specs.Tree.{Body, arm_of}
-use Rattle.btree.specs.Turn.{AreTurned, IsHeld, IsTurned, IsUpTo, Sheaf, sheaf_in}
+use Rattle.btree.specs.Tree.{Body, pivot_of}
+use Rattle.btree.specs.Turn.{AreTurned, IsHeld, IsTurned, IsUpTo, NodeModel, model_in}
 use Rattle.btree.proofs.ChangingLemmas.{behind_later, turned_on}
 use Rattle.btree.proofs.EndLemmas.{drop_here, take_here, within_up_to}
 use Rattle.btree.proofs.HeldLemmas.{IsTurn, glue_held, held_later}
@@ -26,14 +26,14 @@ use Rattle.btree.proofs.SplitLemmas.{IsTwo, two_parts}
 
 -- ---- what is held, cut in two
 
-none_held : (s : Store) (base : ℕ) (low : List ℕ) (high : Option (List ℕ)) (rank : ℕ) (entries : List Entry) (pages : List ℕ) (stubs : List Stub)
-    → stubs ≡ [] → entries ≡ [] → ((n : ℕ) → times n pages ≡ 0) → IsHeld s base low high entries pages (record { rank = rank; stubs = stubs })
-none_held s base low high rank entries pages stubs gone empty nowhere = record {
+none_held : (s : Store) (base : ℕ) (low : List ℕ) (high : Option (List ℕ)) (rank : ℕ) (entries : List Entry) (pages : List ℕ) (slots : List Slot)
+    → slots ≡ [] → entries ≡ [] → ((n : ℕ) → times n pages ≡ 0) → IsHeld s base low high entries pages (record { rank = rank; slots = slots })
+none_held s base low high rank entries pages slots gone empty nowhere = record {
   d = zero;
   body = [];
   rank_is = λ lt. absurd (omega (arith, ap length gone));
-  stubs_are = gone;
-  small = subst (Each IsStub) (sym gone) tt;
+  slots_are = gone;
+  small = subst (Each IsSlot) (sym gone) tt;
   spread = (tt, tt);
   shown = tt;
   entries_are = sym empty;
@@ -41,20 +41,20 @@ none_held s base low high rank entries pages stubs gone empty nowhere = record {
 }
 
 spread_keys : (d : ℕ) (low : List ℕ) (high : Option (List ℕ)) (body : Body d) → IsSpread d low high body
-    → Each (IsBetween low high) (stub_keys (stubs_of d body))
-spread_keys zero low high body h = subst (Each (IsBetween low high)) (sym (map_map pair_stub (λ s. s.key) body)) h.1
-spread_keys (suc d) low high body h = subst (Each (IsBetween low high)) (sym (map_map twig_stub (λ s. s.key) body)) h.2
+    → Each (IsBetween low high) (slot_keys (slots_of d body))
+spread_keys zero low high body h = subst (Each (IsBetween low high)) (sym (map_map pair_slot (λ s. s.key) body)) h.1
+spread_keys (suc d) low high body h = subst (Each (IsBetween low high)) (sym (map_map subtree_slot (λ s. s.key) body)) h.2
 
 -- the first key behind others lies between the bounds
-key_behind : (s : Store) (base : ℕ) (low : List ℕ) (high : Option (List ℕ)) (entries : List Entry) (pages : List ℕ) (sheaf : Sheaf)
-    (front back : List Stub) (t : Stub) → IsHeld s base low high entries pages sheaf → sheaf.stubs ≡ front ++ t ∷ back → IsBetween low high t.key
-key_behind s base low high entries pages sheaf front back t h e =
-    (each_back (IsBetween low high) (stub_keys front) (stub_keys (t ∷ back))
-    (subst (Each (IsBetween low high)) (map_append (λ (x : Stub). x.key) front (t ∷ back))
-    (subst (λ ss. Each (IsBetween low high) (stub_keys ss)) (sym h.stubs_are ∙ e) (spread_keys h.d low high h.body h.spread)))).0
+key_behind : (s : Store) (base : ℕ) (low : List ℕ) (high : Option (List ℕ)) (entries : List Entry) (pages : List ℕ) (model : NodeModel)
+    (front back : List Slot) (t : Slot) → IsHeld s base low high entries pages model → model.slots ≡ front ++ t ∷ back → IsBetween low high t.key
+key_behind s base low high entries pages model front back t h e =
+    (each_back (IsBetween low high) (slot_keys front) (slot_keys (t ∷ back))
+    (subst (Each (IsBetween low high)) (map_append (λ (x : Slot). x.key) front (t ∷ back))
+    (subst (λ ss. Each (IsBetween low high) (slot_keys ss)) (sym h.slots_are ∙ e) (spread_keys h.d low high h.body h.spread)))).0
 
 -- in front of a bound
-record IsLeftCut (s : Store) (base : ℕ) (low mid : List ℕ) (entries : List Entry) (pages : List ℕ) (rank : ℕ) (left : List Stub) (from : ℕ) : Type 0 where
+record IsLeftCut (s : Store) (base : ℕ) (low mid : List ℕ) (entries : List Entry) (pages : List ℕ) (rank : ℕ) (left : List Slot) (from : ℕ) : Type 0 where
   pub key : List ℕ
   pub front_entries : List Entry
   pub near_entries : List Entry
@@ -62,18 +62,18 @@ record IsLeftCut (s : Store) (base : ℕ) (low mid : List ℕ) (entries : List E
   pub near_pages : List ℕ
   pub entries_are : front_entries ++ near_entries ≡ entries
   pub pages_are : (n : ℕ) → times n front_pages + times n near_pages ≡ times n pages
-  pub front_held : IsHeld s base low (Some key) front_entries front_pages (record { rank = rank; stubs = take from left })
-  pub held : IsHeld s base key (Some mid) near_entries near_pages (record { rank = rank; stubs = drop from left })
+  pub front_held : IsHeld s base low (Some key) front_entries front_pages (record { rank = rank; slots = take from left })
+  pub held : IsHeld s base key (Some mid) near_entries near_pages (record { rank = rank; slots = drop from left })
   pub over : IsNotUnder key low
   pub under : IsNotUnder mid key
 
-key_of : (mid : List ℕ) (high : Option (List ℕ)) (back : List Stub) → Some mid ≡ first_or high back → (P : List ℕ → Type 0)
-    → ((t : Stub) (rest : List Stub) → back ≡ t ∷ rest → P t.key) → ((k : List ℕ) → high ≡ Some k → P k) → P mid
+key_of : (mid : List ℕ) (high : Option (List ℕ)) (back : List Slot) → Some mid ≡ first_or high back → (P : List ℕ → Type 0)
+    → ((t : Slot) (rest : List Slot) → back ≡ t ∷ rest → P t.key) → ((k : List ℕ) → high ≡ Some k → P k) → P mid
 key_of mid high [] e P some none = none mid (sym e)
 key_of mid high (t ∷ rest) e P some none = let same : t.key ≡ mid = cc in subst P same (some t rest refl)
 
-cut_left : (s : Store) (base : ℕ) (low mid : List ℕ) (entries : List Entry) (pages : List ℕ) (rank : ℕ) (left : List Stub) (from : ℕ)
-    → IsHeld s base low (Some mid) entries pages (record { rank = rank; stubs = left }) → IsNotUnder mid low → from ≤ length left
+cut_left : (s : Store) (base : ℕ) (low mid : List ℕ) (entries : List Entry) (pages : List ℕ) (rank : ℕ) (left : List Slot) (from : ℕ)
+    → IsHeld s base low (Some mid) entries pages (record { rank = rank; slots = left }) → IsNotUnder mid low → from ≤ length left
     → IsLeftCut s base low mid entries pages rank left from
 cut_left s base low mid entries pages rank left zero h over le = record {
   key = low;
@@ -90,12 +90,12 @@ cut_left s base low mid entries pages rank left zero h over le = record {
 }
 cut_left s base low mid entries pages rank [] (suc f) h over le = absurd (omega arith)
 cut_left s base low mid entries pages rank (x ∷ xs) (suc f) h over le =
-    let two = two_parts s base low (Some mid) entries pages (record { rank = rank; stubs = x ∷ xs }) (take (suc f) (x ∷ xs)) (drop (suc f) (x ∷ xs))
+    let two = two_parts s base low (Some mid) entries pages (record { rank = rank; slots = x ∷ xs }) (take (suc f) (x ∷ xs)) (drop (suc f) (x ∷ xs))
     h (take_drop (suc f) (x ∷ xs)) (omega arith) in
     go two two.behind
   where
     go : (two : IsTwo s base low (Some mid) entries pages rank (take (suc f) (x ∷ xs)) (drop (suc f) (x ∷ xs)))
-        → IsBehind s base two.between (Some mid) two.back_entries two.back_pages (record { rank = rank; stubs = drop (suc f) (x ∷ xs) })
+        → IsBehind s base two.between (Some mid) two.back_entries two.back_pages (record { rank = rank; slots = drop (suc f) (x ∷ xs) })
         → IsLeftCut s base low mid entries pages rank (x ∷ xs) (suc f)
     go two (inl e) = record {
       key = mid;
@@ -105,7 +105,7 @@ cut_left s base low mid entries pages rank (x ∷ xs) (suc f) h over le =
       near_pages = two.back_pages;
       entries_are = two.entries_are;
       pages_are = two.pages_are;
-      front_held = subst (λ b. IsHeld s base low b two.front_entries two.front_pages (record { rank = rank; stubs = take (suc f) (x ∷ xs) })) e.1
+      front_held = subst (λ b. IsHeld s base low b two.front_entries two.front_pages (record { rank = rank; slots = take (suc f) (x ∷ xs) })) e.1
           two.front_held;
       held = none_held s base mid (Some mid) rank two.back_entries two.back_pages (drop (suc f) (x ∷ xs)) e.0 e.2 e.3;
       over = over;
@@ -119,18 +119,18 @@ cut_left s base low mid entries pages rank (x ∷ xs) (suc f) h over le =
       near_pages = two.back_pages;
       entries_are = two.entries_are;
       pages_are = two.pages_are;
-      front_held = subst (λ b. IsHeld s base low b two.front_entries two.front_pages (record { rank = rank; stubs = take (suc f) (x ∷ xs) })) m.is
+      front_held = subst (λ b. IsHeld s base low b two.front_entries two.front_pages (record { rank = rank; slots = take (suc f) (x ∷ xs) })) m.is
           two.front_held;
       held = m.held;
       over = key_of m.mid (Some mid) (drop (suc f) (x ∷ xs)) (sym m.is ∙ two.between_is) (λ k. IsNotUnder k low)
-          (λ t rest is. (key_behind s base low (Some mid) entries pages (record { rank = rank; stubs = x ∷ xs }) (take (suc f) (x ∷ xs)) rest t h
+          (λ t rest is. (key_behind s base low (Some mid) entries pages (record { rank = rank; slots = x ∷ xs }) (take (suc f) (x ∷ xs)) rest t h
           (take_drop (suc f) (x ∷ xs) ∙ ap (λ ss. take (suc f) (x ∷ xs) ++ ss) is)).0)
           (λ k is. let same : mid ≡ k = cc in subst (λ z. IsNotUnder z low) same over);
       under = m.within;
     }
 
 -- behind a bound
-record IsRightCut (s : Store) (base : ℕ) (between high : Option (List ℕ)) (entries : List Entry) (pages : List ℕ) (rank : ℕ) (right : List Stub)
+record IsRightCut (s : Store) (base : ℕ) (between high : Option (List ℕ)) (entries : List Entry) (pages : List ℕ) (rank : ℕ) (right : List Slot)
     (n : ℕ) : Type 0 where
   pub end : Option (List ℕ)
   pub near_entries : List Entry
@@ -139,11 +139,11 @@ record IsRightCut (s : Store) (base : ℕ) (between high : Option (List ℕ)) (e
   pub back_pages : List ℕ
   pub entries_are : near_entries ++ back_entries ≡ entries
   pub pages_are : (k : ℕ) → times k near_pages + times k back_pages ≡ times k pages
-  pub near : IsBehind s base between end near_entries near_pages (record { rank = rank; stubs = take n right })
-  pub behind : IsBehind s base end high back_entries back_pages (record { rank = rank; stubs = drop n right })
+  pub near : IsBehind s base between end near_entries near_pages (record { rank = rank; slots = take n right })
+  pub behind : IsBehind s base end high back_entries back_pages (record { rank = rank; slots = drop n right })
 
-cut_right : (s : Store) (base : ℕ) (between high : Option (List ℕ)) (entries : List Entry) (pages : List ℕ) (rank : ℕ) (right : List Stub) (n : ℕ)
-    → IsBehind s base between high entries pages (record { rank = rank; stubs = right }) → IsRightCut s base between high entries pages rank right n
+cut_right : (s : Store) (base : ℕ) (between high : Option (List ℕ)) (entries : List Entry) (pages : List ℕ) (rank : ℕ) (right : List Slot) (n : ℕ)
+    → IsBehind s base between high entries pages (record { rank = rank; slots = right }) → IsRightCut s base between high entries pages rank right n
 cut_right s base between high entries pages rank right zero b = record {
   end = between;
   near_entries = [];
@@ -168,7 +168,7 @@ cut_right s base between high entries pages rank [] (suc n) b = record {
 }
 cut_right s base between high entries pages rank (x ∷ xs) (suc n) (inl e) = absurd (omega (arith, ap length e.0))
 cut_right s base between high entries pages rank (x ∷ xs) (suc n) (inr m) =
-    let two = two_parts s base m.mid high entries pages (record { rank = rank; stubs = x ∷ xs }) (take (suc n) (x ∷ xs)) (drop (suc n) (x ∷ xs))
+    let two = two_parts s base m.mid high entries pages (record { rank = rank; slots = x ∷ xs }) (take (suc n) (x ∷ xs)) (drop (suc n) (x ∷ xs))
     m.held (take_drop (suc n) (x ∷ xs)) (omega arith) in
     record {
       end = two.between;
@@ -183,13 +183,13 @@ cut_right s base between high entries pages rank (x ∷ xs) (suc n) (inr m) =
         is = m.is;
         held = two.front_held;
         within = subst (IsUpTo m.mid) (sym two.between_is) (upto (drop (suc n) (x ∷ xs))
-            (λ t rest is. (key_behind s base m.mid high entries pages (record { rank = rank; stubs = x ∷ xs }) (take (suc n) (x ∷ xs)) rest t m.held
+            (λ t rest is. (key_behind s base m.mid high entries pages (record { rank = rank; slots = x ∷ xs }) (take (suc n) (x ∷ xs)) rest t m.held
             (take_drop (suc n) (x ∷ xs) ∙ ap (λ ss. take (suc n) (x ∷ xs) ++ ss) is)).0));
       });
       behind = two.behind;
     }
   where
-    upto : (back : List Stub) → ((t : Stub) (rest : List Stub) → back ≡ t ∷ rest → IsNotUnder t.key m.mid) → IsUpTo m.mid (first_or high back)
+    upto : (back : List Slot) → ((t : Slot) (rest : List Slot) → back ≡ t ∷ rest → IsNotUnder t.key m.mid) → IsUpTo m.mid (first_or high back)
     upto [] some = m.within
     upto (t ∷ rest) some = some t rest refl
 
@@ -220,15 +220,15 @@ take_long zero xs le = refl
 take_long (suc n) [] le = absurd (omega arith)
 take_long (suc n) (x ∷ xs) le = omega (arith, take_long n xs (omega arith))
 
-pub between_none : (from : ℕ) (stubs : List Stub) → stubs_between from from stubs ≡ []
-between_none zero stubs = refl
+pub between_none : (from : ℕ) (slots : List Slot) → slots_between from from slots ≡ []
+between_none zero slots = refl
 between_none (suc from) [] = refl
-between_none (suc from) (s ∷ stubs) = between_none from stubs
+between_none (suc from) (s ∷ slots) = between_none from slots
 
-pub between_more : (from i : ℕ) (stubs : List Stub) (d : Stub) → from ≤ i → i < length stubs
-    → stubs_between from (i + 1) stubs ≡ stubs_between from i stubs ++ get_or stubs i d ∷ []
-between_more from i stubs d le lt =
-    ap (drop from) (take_more stubs i d lt) ∙ drop_front from (take i stubs) (get_or stubs i d ∷ []) (omega (arith, take_long i stubs (omega arith)))
+pub between_more : (from i : ℕ) (slots : List Slot) (d : Slot) → from ≤ i → i < length slots
+    → slots_between from (i + 1) slots ≡ slots_between from i slots ++ get_or slots i d ∷ []
+between_more from i slots d le lt =
+    ap (drop from) (take_more slots i d lt) ∙ drop_front from (take i slots) (get_or slots i d ∷ []) (omega (arith, take_long i slots (omega arith)))
 
 take_within : {X : Type 0} (n m : ℕ) (xs : List X) → n ≤ m → take n (take m xs) ≡ take n xs
 take_within zero m xs le = refl
@@ -236,40 +236,40 @@ take_within (suc n) zero xs le = absurd (omega arith)
 take_within (suc n) (suc m) [] le = refl
 take_within (suc n) (suc m) (x ∷ xs) le = ap (λ zs. x ∷ zs) (take_within n m xs (omega arith))
 
-pub between_split : (a b c : ℕ) (stubs : List Stub) → a ≤ b → b ≤ c → c ≤ length stubs
-    → stubs_between a c stubs ≡ stubs_between a b stubs ++ stubs_between b c stubs
-between_split a b c stubs ab bc within =
-    ap (drop a) (take_drop b (take c stubs) ∙ ap (λ ss. ss ++ drop b (take c stubs)) (take_within b c stubs bc))
-    ∙ drop_front a (take b stubs) (drop b (take c stubs)) (omega (arith, take_long b stubs (omega arith)))
+pub between_split : (a b c : ℕ) (slots : List Slot) → a ≤ b → b ≤ c → c ≤ length slots
+    → slots_between a c slots ≡ slots_between a b slots ++ slots_between b c slots
+between_split a b c slots ab bc within =
+    ap (drop a) (take_drop b (take c slots) ∙ ap (λ ss. ss ++ drop b (take c slots)) (take_within b c slots bc))
+    ∙ drop_front a (take b slots) (drop b (take c slots)) (omega (arith, take_long b slots (omega arith)))
 
-pub between_whole : (a b : ℕ) (stubs : List Stub) → a ≤ b → stubs ≡ take a stubs ++ (stubs_between a b stubs ++ drop b stubs)
-between_whole a b stubs le =
-    take_drop b stubs ∙ ap (λ ss. ss ++ drop b stubs) (take_drop a (take b stubs) ∙ ap (λ ss. ss ++ drop a (take b stubs)) (take_within a b stubs le))
-    ∙ append_assoc (take a stubs) (drop a (take b stubs)) (drop b stubs)
+pub between_whole : (a b : ℕ) (slots : List Slot) → a ≤ b → slots ≡ take a slots ++ (slots_between a b slots ++ drop b slots)
+between_whole a b slots le =
+    take_drop b slots ∙ ap (λ ss. ss ++ drop b slots) (take_drop a (take b slots) ∙ ap (λ ss. ss ++ drop a (take b slots)) (take_within a b slots le))
+    ∙ append_assoc (take a slots) (drop a (take b slots)) (drop b slots)
 
 drop_long : {X : Type 0} (n : ℕ) (xs : List X) → n ≤ length xs → n + length (drop n xs) ≡ length xs
 drop_long zero xs le = omega arith
 drop_long (suc n) [] le = absurd (omega arith)
 drop_long (suc n) (x ∷ xs) le = omega (arith, drop_long n xs (omega arith))
 
-pub between_long : (a b : ℕ) (stubs : List Stub) → a ≤ b → b ≤ length stubs → a + length (stubs_between a b stubs) ≡ b
-between_long a b stubs le within =
-    drop_long a (take b stubs) (omega (arith, take_long b stubs within)) ∙ take_long b stubs within
+pub between_long : (a b : ℕ) (slots : List Slot) → a ≤ b → b ≤ length slots → a + length (slots_between a b slots) ≡ b
+between_long a b slots le within =
+    drop_long a (take b slots) (omega (arith, take_long b slots within)) ∙ take_long b slots within
 
 -- ---- what was put among the children beside it
 
-module _ (old : Store) (base : ℕ) (low : List ℕ) (high : Option (List ℕ)) (arms : List Arm) (at rank : ℕ) (entries : List Entry) (reached : List ℕ)
-    (below left right : Sheaf) (m : IsAmid old base low high arms at rank entries reached below) (from to : ℕ) (before : from ≤ at) (past : at + 1 ≤ to)
-    (left_is : left.stubs ≡ stubs_between from at (map arm_stub (under_key low arms)))
-    (left_rank : left.rank ≡ rank) (right_is : right.stubs ≡ stubs_between (at + 1) to (map arm_stub (under_key low arms)))
+module _ (old : Store) (base : ℕ) (low : List ℕ) (high : Option (List ℕ)) (pivots : List Pivot) (at rank : ℕ) (entries : List Entry) (reached : List ℕ)
+    (below left right : NodeModel) (m : IsAmid old base low high pivots at rank entries reached below) (from to : ℕ) (before : from ≤ at) (past : at + 1 ≤ to)
+    (left_is : left.slots ≡ slots_between from at (map pivot_slot (under_key low pivots)))
+    (left_rank : left.rank ≡ rank) (right_is : right.slots ≡ slots_between (at + 1) to (map pivot_slot (under_key low pivots)))
     (right_rank : right.rank ≡ rank) where
-  abbrev stubs : List Stub
-  stubs = map arm_stub (under_key low arms)
+  abbrev slots : List Slot
+  slots = map pivot_slot (under_key low pivots)
 
-  abbrev t : Stub
+  abbrev t : Slot
   t = record { key = m.key; load = m.load }
 
-  front_is : stubs ≡ m.left ++ (t ∷ m.right)
+  front_is : slots ≡ m.left ++ (t ∷ m.right)
   front_is = m.parts ∙ append_assoc m.left (t ∷ []) m.right
 
   lc : IsLeftCut old base low m.key m.front_entries m.front_pages rank m.left from
@@ -281,29 +281,29 @@ module _ (old : Store) (base : ℕ) (low : List ℕ) (high : Option (List ℕ)) 
   whole_long : length (m.left ++ t ∷ []) ≡ at + 1
   whole_long = omega (arith, long_append m.left (t ∷ []), m.place)
 
-  front_take : take from stubs ≡ take from m.left
+  front_take : take from slots ≡ take from m.left
   front_take = ap (take from) front_is ∙ take_front from m.left (t ∷ m.right) (omega (arith, before, m.place))
 
-  left_drop : left.stubs ≡ drop from m.left
+  left_drop : left.slots ≡ drop from m.left
   left_drop = left_is ∙ ap (λ ss. drop from (take at ss)) front_is ∙ ap (λ n. drop from (take n (m.left ++ (t ∷ m.right)))) (sym m.place)
       ∙ ap (drop from) (take_here m.left (t ∷ m.right))
 
-  right_take : right.stubs ≡ take (to - (at + 1)) m.right
+  right_take : right.slots ≡ take (to - (at + 1)) m.right
   right_take = right_is ∙ ap (λ ss. drop (at + 1) (take to ss)) m.parts
       ∙ ap (drop (at + 1)) (take_past to (to - (at + 1)) (m.left ++ t ∷ []) m.right (omega (arith, whole_long, past)))
       ∙ ap (λ n. drop n ((m.left ++ t ∷ []) ++ take (to - (at + 1)) m.right)) (sym whole_long)
       ∙ drop_here (m.left ++ t ∷ []) (take (to - (at + 1)) m.right)
 
-  back_drop : drop to stubs ≡ drop (to - (at + 1)) m.right
+  back_drop : drop to slots ≡ drop (to - (at + 1)) m.right
   back_drop = ap (drop to) m.parts ∙ drop_past to (to - (at + 1)) (m.left ++ t ∷ []) m.right (omega (arith, whole_long, past))
 
   near_left : IsHeld old base lc.key (Some m.key) lc.near_entries lc.near_pages left
   near_left = subst (IsHeld old base lc.key (Some m.key) lc.near_entries lc.near_pages)
-      (λ i. record { rank = sym left_rank i; stubs = sym left_drop i }) lc.held
+      (λ i. record { rank = sym left_rank i; slots = sym left_drop i }) lc.held
 
   near_right : IsBehind old base m.between rc.end rc.near_entries rc.near_pages right
   near_right = subst (IsBehind old base m.between rc.end rc.near_entries rc.near_pages)
-      (λ i. record { rank = sym right_rank i; stubs = sym right_take i }) rc.near
+      (λ i. record { rank = sym right_rank i; slots = sym right_take i }) rc.near
 
   near_over : IsNotUnder m.key lc.key
   near_over = lc.under
@@ -314,13 +314,13 @@ module _ (old : Store) (base : ℕ) (low : List ℕ) (high : Option (List ℕ)) 
   near_within : IsUpTo m.key rc.end
   near_within = upto_of m.key rc.end m.between old base rc.near_entries rc.near_pages _ m.inside rc.near
 
-  module _ (new : Store) (amid : Sheaf) (grows : Frame old new)
+  module _ (new : Store) (amid : NodeModel) (grows : Frame old new)
       (u : IsTurned old new base lc.key rc.end (lc.near_entries ++ (m.mid_entries ++ rc.near_entries))
       (lc.near_pages ++ (m.mid_pages ++ rc.near_pages)) amid) where
     abbrev reached_now : List ℕ
     reached_now = lc.front_pages ++ (u.after ++ rc.back_pages)
 
-    around : IsAround new base low high stubs from to rank entries reached_now amid
+    around : IsAround new base low high slots from to rank entries reached_now amid
     around = record {
       key = lc.key;
       between = rc.end;
@@ -335,10 +335,10 @@ module _ (old : Store) (base : ℕ) (low : List ℕ) (high : Option (List ℕ)) 
           ∙ sym (append_assoc lc.front_entries lc.near_entries (m.mid_entries ++ m.back_entries))
           ∙ ap (λ es. es ++ (m.mid_entries ++ m.back_entries)) lc.entries_are ∙ m.entries_are;
       pages_are = λ n. omega (arith, times_append n lc.front_pages (u.after ++ rc.back_pages), times_append n u.after rc.back_pages);
-      front_held = subst (λ ss. IsHeld new base low (Some lc.key) lc.front_entries lc.front_pages (record { rank = rank; stubs = ss })) (sym front_take)
+      front_held = subst (λ ss. IsHeld new base low (Some lc.key) lc.front_entries lc.front_pages (record { rank = rank; slots = ss })) (sym front_take)
           (held_later old new base low (Some lc.key) _ _ _ grows lc.front_held);
       held = u.held;
-      behind = subst (λ ss. IsBehind new base rc.end high rc.back_entries rc.back_pages (record { rank = rank; stubs = ss })) (sym back_drop)
+      behind = subst (λ ss. IsBehind new base rc.end high rc.back_entries rc.back_pages (record { rank = rank; slots = ss })) (sym back_drop)
           (behind_later old new base rc.end high rc.back_entries rc.back_pages _ grows rc.behind);
       over = lc.over;
       inside = up_to_trans lc.key m.key rc.end lc.under near_within;
@@ -360,12 +360,12 @@ module _ (old : Store) (base : ℕ) (low : List ℕ) (high : Option (List ℕ)) 
 
   -- the program's steps
   module _ (mid : Store) (grows : Frame old mid) where
-    pub near_done : (new : Store) (amid : Sheaf) (r : Result Loose TreeFault)
+    pub near_done : (new : Store) (amid : NodeModel) (r : Result LooseNode TreeFault)
         → ((low' key : List ℕ) (between end : Option (List ℕ)) (first last inner : List Entry) (first_pages inner_pages last_pages : List ℕ)
         → IsHeld old base low' (Some key) first first_pages left → IsHeld old base key between inner inner_pages below
         → IsBehind old base between end last last_pages right → IsNotUnder key low' → IsUpTo key between → IsUpTo key end
         → IsTurned old mid base low' end (first ++ (inner ++ last)) (first_pages ++ (inner_pages ++ last_pages)) amid)
-        → ((reached_then : List ℕ) → IsAround mid base low high stubs from to rank entries reached_then amid
+        → ((reached_then : List ℕ) → IsAround mid base low high slots from to rank entries reached_then amid
         → IsTurn mid new base low high entries reached_then r) → IsTurn old new base low high entries reached r
     near_done new amid r settles others =
         let u = settles lc.key m.key m.between rc.end lc.near_entries rc.near_entries m.mid_entries lc.near_pages m.mid_pages rc.near_pages
@@ -385,55 +385,56 @@ module _ (old : Store) (base : ℕ) (low : List ℕ) (high : Option (List ℕ)) 
 -- ---- and then among the others
 
 -- what is put among them is turned
-pub around_done : (old new : Store) (base : ℕ) (low : List ℕ) (high : Option (List ℕ)) (stubs : List Stub) (from to rank : ℕ) (entries : List Entry)
-    (reached : List ℕ) (amid : Sheaf) (r : Result Loose TreeFault) (m : IsAround old base low high stubs from to rank entries reached amid)
+pub around_done : (old new : Store) (base : ℕ) (low : List ℕ) (high : Option (List ℕ)) (slots : List Slot) (from to rank : ℕ) (entries : List Entry)
+    (reached : List ℕ) (amid : NodeModel) (r : Result LooseNode TreeFault) (m : IsAround old base low high slots from to rank entries reached amid)
     → IsTurn old new base low high (m.front_entries ++ (m.mid_entries ++ m.back_entries)) (m.front_pages ++ (m.mid_pages ++ m.back_pages)) r
     → IsTurn old new base low high entries reached r
-around_done old new base low high stubs from to rank entries reached amid (Ok l) m u =
+around_done old new base low high slots from to rank entries reached amid (Ok l) m u =
     record {
       after = u.after;
-      held = subst (λ es. IsHeld new base low high es u.after (sheaf_in l)) m.entries_are u.held;
+      held = subst (λ es. IsHeld new base low high es u.after (model_in l)) m.entries_are u.held;
       turned = λ n. omega
           (arith, u.turned n, m.pages_are n, times_append n m.front_pages (m.mid_pages ++ m.back_pages), times_append n m.mid_pages m.back_pages);
     }
-around_done old new base low high stubs from to rank entries reached amid (Err e) m u = u
+around_done old new base low high slots from to rank entries reached amid (Err e) m u = u
 
 -- all of them together are held
-pub around_held : (s : Store) (base : ℕ) (low : List ℕ) (high : Option (List ℕ)) (stubs : List Stub) (from to rank : ℕ) (entries : List Entry)
-    (reached : List ℕ) (amid : Sheaf) → IsAround s base low high stubs from to rank entries reached amid → amid.rank ≡ rank
-    → IsHeld s base low high entries reached (record { rank = rank; stubs = take from stubs ++ (amid.stubs ++ drop to stubs) })
-around_held s base low high stubs from to rank entries reached amid m same =
-    let mid : IsHeld s base m.key m.between m.mid_entries m.mid_pages (record { rank = rank; stubs = amid.stubs }) =
-    subst (λ n. IsHeld s base m.key m.between m.mid_entries m.mid_pages (record { rank = n; stubs = amid.stubs })) same m.held in
+pub around_held : (s : Store) (base : ℕ) (low : List ℕ) (high : Option (List ℕ)) (slots : List Slot) (from to rank : ℕ) (entries : List Entry)
+    (reached : List ℕ) (amid : NodeModel) → IsAround s base low high slots from to rank entries reached amid → amid.rank ≡ rank
+    → IsHeld s base low high entries reached (record { rank = rank; slots = take from slots ++ (amid.slots ++ drop to slots) })
+around_held s base low high slots from to rank entries reached amid m same =
+    let mid : IsHeld s base m.key m.between m.mid_entries m.mid_pages (record { rank = rank; slots = amid.slots }) =
+    subst (λ n. IsHeld s base m.key m.between m.mid_entries m.mid_pages (record { rank = n; slots = amid.slots })) same m.held in
     let back = behind_glued s base m.key m.between high m.mid_entries m.back_entries m.mid_pages m.back_pages
-    (record { rank = rank; stubs = amid.stubs }) (drop to stubs) mid m.behind m.inside in
+    (record { rank = rank; slots = amid.slots }) (drop to slots) mid m.behind m.inside in
     let both = glue_held s base low m.key high m.front_entries (m.mid_entries ++ m.back_entries) m.front_pages (m.mid_pages ++ m.back_pages)
-    (record { rank = rank; stubs = take from stubs }) (record { rank = rank; stubs = amid.stubs ++ drop to stubs }) m.front_held back refl m.over m.within in
+    (record { rank = rank; slots = take from slots }) (record { rank = rank; slots = amid.slots ++ drop to slots }) m.front_held back refl m.over m.within in
     same_held s base low high _ entries _ reached _ both m.entries_are
     (λ n. omega (arith, m.pages_are n, times_append n m.front_pages (m.mid_pages ++ m.back_pages), times_append n m.mid_pages m.back_pages))
 
 -- the children of the branch that has them
-pub under_exchanged : (low : List ℕ) (from to : ℕ) (new arms : List Arm) → 0 < from → from ≤ to → 0 < length arms
-    → map arm_stub (under_key low (exchanged from to new arms))
-    ≡ take from (map arm_stub (under_key low arms)) ++ (map arm_stub new ++ drop to (map arm_stub (under_key low arms)))
-under_exchanged low zero to new arms some le more = absurd (omega arith)
-under_exchanged low (suc f) zero new arms some le more = absurd (omega arith)
+pub under_exchanged : (low : List ℕ) (from to : ℕ) (new pivots : List Pivot) → 0 < from → from ≤ to → 0 < length pivots
+    → map pivot_slot (under_key low (exchanged from to new pivots))
+    ≡ take from (map pivot_slot (under_key low pivots)) ++ (map pivot_slot new ++ drop to (map pivot_slot (under_key low pivots)))
+under_exchanged low zero to new pivots some le more = absurd (omega arith)
+under_exchanged low (suc f) zero new pivots some le more = absurd (omega arith)
 under_exchanged low (suc f) (suc t) new [] some le more = absurd (omega arith)
-under_exchanged low (suc f) (suc t) new (a ∷ arms) some le more =
-    ap (λ ss. arm_stub (record { key = low; child = a.child }) ∷ ss)
-    (map_append arm_stub (take f arms) (new ++ drop t arms)
-    ∙ (λ i. map_take arm_stub f arms i ++ (map_append arm_stub new (drop t arms) ∙ ap (λ ss. map arm_stub new ++ ss) (map_drop arm_stub t arms)) i))
+under_exchanged low (suc f) (suc t) new (a ∷ pivots) some le more =
+    ap (λ ss. pivot_slot (record { key = low; child = a.child }) ∷ ss)
+    (map_append pivot_slot (take f pivots) (new ++ drop t pivots)
+    ∙ (λ i. map_take pivot_slot f pivots i ++ (map_append pivot_slot new (drop t pivots) ∙ ap (λ ss. map pivot_slot new ++ ss) (map_drop pivot_slot t pivots))
+    i))
 
 -- what is held above the leaves are children
-pub record HasArms (stubs : List Stub) : Type 0 where
-  pub arms : List Arm
-  pub is : stubs ≡ map arm_stub arms
+pub record HasPivots (slots : List Slot) : Type 0 where
+  pub pivots : List Pivot
+  pub is : slots ≡ map pivot_slot pivots
 
-pub arms_held : (s : Store) (base : ℕ) (low : List ℕ) (high : Option (List ℕ)) (entries : List Entry) (pages : List ℕ) (rank : ℕ) (stubs : List Stub)
-    → IsHeld s base low high entries pages (record { rank = rank; stubs = stubs }) → base < rank → HasArms stubs
-arms_held s base low high entries pages rank stubs h deep = go h.d h.body h.stubs_are (λ lt. h.rank_is lt)
+pub pivots_held : (s : Store) (base : ℕ) (low : List ℕ) (high : Option (List ℕ)) (entries : List Entry) (pages : List ℕ) (rank : ℕ) (slots : List Slot)
+    → IsHeld s base low high entries pages (record { rank = rank; slots = slots }) → base < rank → HasPivots slots
+pivots_held s base low high entries pages rank slots h deep = go h.d h.body h.slots_are (λ lt. h.rank_is lt)
   where
-    go : (d : ℕ) (body : Body d) → stubs ≡ stubs_of d body → (0 < length stubs → rank ≡ base + d) → HasArms stubs
-    go zero [] e r = record { arms = []; is = e }
+    go : (d : ℕ) (body : Body d) → slots ≡ slots_of d body → (0 < length slots → rank ≡ base + d) → HasPivots slots
+    go zero [] e r = record { pivots = []; is = e }
     go zero (x ∷ xs) e r = absurd (omega (arith, r (omega (arith, ap length e)), deep))
-    go (suc d) ws e r = record { arms = map arm_of ws; is = e ∙ sym (map_map arm_of arm_stub ws) }
+    go (suc d) ws e r = record { pivots = map pivot_of ws; is = e ∙ sym (map_map pivot_of pivot_slot ws) }

@@ -7,14 +7,14 @@ use Rattle.std.specs.Prelude.{◌&&◌, MatchBool}
 use Rattle.std.specs.List.{AllByRecursion}
 use Rattle.std.specs.Ordering.{is_lt}
 use Rattle.page.specs.ChildPage.{exchanged}
-use Rattle.page.specs.Content.{Arm, IsArm, IsBranch, arm_keys, arm_size, arms_size, is_below, rise, rise_above, total}
+use Rattle.page.specs.Content.{Pivot, IsPivot, IsBranch, pivot_keys, pivot_size, pivots_size, is_below, rise, rise_above, total}
 use Rattle.btree.specs.Keys.{IsPast, IsUnder, IsWithin}
-use Rattle.btree.specs.Loose.{GoBehind, Stub, arm_stub, stubs_size}
-use Rattle.btree.proofs.FewParts.{arms_total}
+use Rattle.btree.specs.Loose.{GoBehind, Slot, pivot_slot, slots_size}
+use Rattle.btree.proofs.FewParts.{pivots_total}
 use Rattle.btree.proofs.InPageLemmas.{both_true}
 use Rattle.btree.proofs.ListLemmas.{long_append, long_map, map_append}
 use Rattle.btree.proofs.LooseLemmas.{take_drop}
-use Rattle.btree.proofs.PartLemmas.{behind_arms}
+use Rattle.btree.proofs.PartLemmas.{behind_pivots}
 
 -- ---- keys that rise
 
@@ -50,33 +50,35 @@ above_first k [] h under = refl
 above_first k (x ∷ xs) h under = ap (λ o. is_lt o && rise_above x xs) (under x xs refl) ∙ h
 
 -- the last key of the first children, and of all of them
-last_taken : (key : List ℕ) (arms : List Arm) (n : ℕ) (d : Arm) → n < length arms → last_or key (arm_keys (take (suc n) arms)) ≡ (get_or arms n d).key
+last_taken : (key : List ℕ) (pivots : List Pivot) (n : ℕ) (d : Pivot) → n < length pivots
+    → last_or key (pivot_keys (take (suc n) pivots)) ≡ (get_or pivots n d).key
 last_taken key [] n d lt = absurd (omega arith)
-last_taken key (a ∷ arms) zero d lt = refl
-last_taken key (a ∷ arms) (suc n) d lt = last_taken a.key arms n d (omega arith)
+last_taken key (a ∷ pivots) zero d lt = refl
+last_taken key (a ∷ pivots) (suc n) d lt = last_taken a.key pivots n d (omega arith)
 
-last_of : (key : List ℕ) (arms : List Arm) (n : ℕ) (s : Stub) → n + 1 ≡ length arms → last_or key (arm_keys arms) ≡ (get_or (map arm_stub arms) n s).key
+last_of : (key : List ℕ) (pivots : List Pivot) (n : ℕ) (s : Slot) → n + 1 ≡ length pivots
+    → last_or key (pivot_keys pivots) ≡ (get_or (map pivot_slot pivots) n s).key
 last_of key [] n s is = absurd (omega arith)
 last_of key (a ∷ []) zero s is = refl
-last_of key (a ∷ b ∷ arms) zero s is = absurd (omega arith)
-last_of key (a ∷ arms) (suc n) s is = last_of a.key arms n s (omega arith)
+last_of key (a ∷ b ∷ pivots) zero s is = absurd (omega arith)
+last_of key (a ∷ pivots) (suc n) s is = last_of a.key pivots n s (omega arith)
 
-first_dropped : (arms : List Arm) (n : ℕ) (d : Arm) (x : List ℕ) (rest : List (List ℕ)) → arm_keys (drop n arms) ≡ x ∷ rest → (n < length arms)
-    × ((get_or arms n d).key ≡ x)
+first_dropped : (pivots : List Pivot) (n : ℕ) (d : Pivot) (x : List ℕ) (rest : List (List ℕ)) → pivot_keys (drop n pivots) ≡ x ∷ rest → (n < length pivots)
+    × ((get_or pivots n d).key ≡ x)
 first_dropped [] zero d x rest is = cc
 first_dropped [] (suc n) d x rest is = cc
-first_dropped (a ∷ arms) zero d x rest is = (omega arith, ap (λ (l : List (List ℕ)). get_or l 0 x) is)
-first_dropped (a ∷ arms) (suc n) d x rest is = let r = first_dropped arms n d x rest is in (omega (arith, r.0), r.1)
+first_dropped (a ∷ pivots) zero d x rest is = (omega arith, ap (λ (l : List (List ℕ)). get_or l 0 x) is)
+first_dropped (a ∷ pivots) (suc n) d x rest is = let r = first_dropped pivots n d x rest is in (omega (arith, r.0), r.1)
 
-keys_drop : (n : ℕ) (arms : List Arm) → arm_keys (drop n arms) ≡ drop n (arm_keys arms)
-keys_drop zero arms = refl
+keys_drop : (n : ℕ) (pivots : List Pivot) → pivot_keys (drop n pivots) ≡ drop n (pivot_keys pivots)
+keys_drop zero pivots = refl
 keys_drop (suc n) [] = refl
-keys_drop (suc n) (a ∷ arms) = keys_drop n arms
+keys_drop (suc n) (a ∷ pivots) = keys_drop n pivots
 
-keys_take : (n : ℕ) (arms : List Arm) → arm_keys (take n arms) ≡ take n (arm_keys arms)
-keys_take zero arms = refl
+keys_take : (n : ℕ) (pivots : List Pivot) → pivot_keys (take n pivots) ≡ take n (pivot_keys pivots)
+keys_take zero pivots = refl
 keys_take (suc n) [] = refl
-keys_take (suc n) (a ∷ arms) = ap (λ (l : List (List ℕ)). a.key ∷ l) (keys_take n arms)
+keys_take (suc n) (a ∷ pivots) = ap (λ (l : List (List ℕ)). a.key ∷ l) (keys_take n pivots)
 
 -- a key that is within a bound
 pub within_bound : (b : Bool) (high : Option (List ℕ)) (key next : List ℕ) → b ≡ true → MatchBool b (IsWithin high key) (IsPast high key) → high ≡ Some next
@@ -86,97 +88,99 @@ within_bound false high key next is h same = cc
 
 -- ---- children
 
-each_both : (xs ys : List Arm) → AllByRecursion IsArm xs → AllByRecursion IsArm ys → AllByRecursion IsArm (xs ++ ys)
+each_both : (xs ys : List Pivot) → AllByRecursion IsPivot xs → AllByRecursion IsPivot ys → AllByRecursion IsPivot (xs ++ ys)
 each_both [] ys h g = g
 each_both (x ∷ xs) ys h g = (h.0, each_both xs ys h.1 g)
 
-each_take : (n : ℕ) (xs : List Arm) → AllByRecursion IsArm xs → AllByRecursion IsArm (take n xs)
+each_take : (n : ℕ) (xs : List Pivot) → AllByRecursion IsPivot xs → AllByRecursion IsPivot (take n xs)
 each_take zero xs h = tt
 each_take (suc n) [] h = tt
 each_take (suc n) (x ∷ xs) h = (h.0, each_take n xs h.1)
 
-each_drop : (n : ℕ) (xs : List Arm) → AllByRecursion IsArm xs → AllByRecursion IsArm (drop n xs)
+each_drop : (n : ℕ) (xs : List Pivot) → AllByRecursion IsPivot xs → AllByRecursion IsPivot (drop n xs)
 each_drop zero xs h = h
 each_drop (suc n) [] h = tt
 each_drop (suc n) (x ∷ xs) h = each_drop n xs h.1
 
-total_both : (xs ys : List Arm) → total arm_size (xs ++ ys) ≡ total arm_size xs + total arm_size ys
+total_both : (xs ys : List Pivot) → total pivot_size (xs ++ ys) ≡ total pivot_size xs + total pivot_size ys
 total_both [] ys = omega arith
 total_both (x ∷ xs) ys = omega (arith, total_both xs ys)
 
-over_bound : (k : List ℕ) (new : List Arm) (s : Stub) → GoBehind None 0 (map arm_stub new) → 0 < length new
-    → IsUnder k (get_or (map arm_stub new) 0 s).key → GoBehind (Some k) 0 (map arm_stub new)
+over_bound : (k : List ℕ) (new : List Pivot) (s : Slot) → GoBehind None 0 (map pivot_slot new) → 0 < length new
+    → IsUnder k (get_or (map pivot_slot new) 0 s).key → GoBehind (Some k) 0 (map pivot_slot new)
 over_bound k [] s go some under = absurd (omega arith)
 over_bound k (x ∷ xs) s go some under = (go.0, under, go.2, go.3)
 
-exchanged_sound : (f t : ℕ) (a : Arm) (arms new : List Arm) (s : Stub) (d : Arm) → IsBranch (a ∷ arms) → f ≤ length arms
-    → GoBehind None 0 (map arm_stub new) → 0 < length new
-    → IsUnder (get_or (a ∷ arms) f d).key (get_or (map arm_stub new) 0 s).key
-    → (t < length arms → IsUnder (get_or (map arm_stub new) (length new - 1) s).key (get_or arms t d).key)
-    → 4 + total arm_size (take f arms) + total arm_size new + total arm_size (drop t arms) ≤ 4080
-    → IsBranch (a ∷ (take f arms ++ (new ++ drop t arms)))
-exchanged_sound f t a arms new s d sound within go some under over room =
-    let k : List ℕ = (get_or (a ∷ arms) f d).key in
-    let n = behind_arms k 0 new (omega arith) (over_bound k new s go some under) in
-    let keys : arm_keys (take f arms ++ (new ++ drop t arms)) ≡ arm_keys (take f arms) ++ (arm_keys new ++ arm_keys (drop t arms)) =
-    map_append (λ (x : Arm). x.key) (take f arms) (new ++ drop t arms)
-    ∙ ap (λ (l : List (List ℕ)). arm_keys (take f arms) ++ l) (map_append (λ (x : Arm). x.key) new (drop t arms)) in
-    let front_last : last_or a.key (arm_keys (take f arms)) ≡ k = last_taken a.key (a ∷ arms) f d (omega arith) in
-    let new_last : last_or k (arm_keys new) ≡ (get_or (map arm_stub new) (length new - 1) s).key = last_of k new (length new - 1) s (omega arith) in
-    let back : rise (arm_keys (drop t arms)) ≡ true =
-    ap rise (keys_drop t arms) ∙ rise_drop t (arm_keys arms) (above_rise a.key (arm_keys arms) sound.ascending) in
-    let back_above : rise_above (last_or k (arm_keys new)) (arm_keys (drop t arms)) ≡ true =
-    above_first (last_or k (arm_keys new)) (arm_keys (drop t arms)) back
-    (λ x rest is. let r = first_dropped arms t d x rest is in
-    subst (λ z. IsUnder z x) (sym new_last) (subst (IsUnder (get_or (map arm_stub new) (length new - 1) s).key) r.1 (over r.0))) in
-    let new_above : rise_above k (arm_keys new ++ arm_keys (drop t arms)) ≡ true = rise_on k (arm_keys new) (arm_keys (drop t arms)) n.1 back_above in
-    let front : rise_above a.key (arm_keys (take f arms)) ≡ true =
-    ap (rise_above a.key) (keys_take f arms) ∙ rise_take a.key f (arm_keys arms) sound.ascending in
+exchanged_sound : (f t : ℕ) (a : Pivot) (pivots new : List Pivot) (s : Slot) (d : Pivot) → IsBranch (a ∷ pivots) → f ≤ length pivots
+    → GoBehind None 0 (map pivot_slot new) → 0 < length new
+    → IsUnder (get_or (a ∷ pivots) f d).key (get_or (map pivot_slot new) 0 s).key
+    → (t < length pivots → IsUnder (get_or (map pivot_slot new) (length new - 1) s).key (get_or pivots t d).key)
+    → 4 + total pivot_size (take f pivots) + total pivot_size new + total pivot_size (drop t pivots) ≤ 4080
+    → IsBranch (a ∷ (take f pivots ++ (new ++ drop t pivots)))
+exchanged_sound f t a pivots new s d sound within go some under over room =
+    let k : List ℕ = (get_or (a ∷ pivots) f d).key in
+    let n = behind_pivots k 0 new (omega arith) (over_bound k new s go some under) in
+    let keys : pivot_keys (take f pivots ++ (new ++ drop t pivots)) ≡ pivot_keys (take f pivots) ++ (pivot_keys new ++ pivot_keys (drop t pivots)) =
+    map_append (λ (x : Pivot). x.key) (take f pivots) (new ++ drop t pivots)
+    ∙ ap (λ (l : List (List ℕ)). pivot_keys (take f pivots) ++ l) (map_append (λ (x : Pivot). x.key) new (drop t pivots)) in
+    let front_last : last_or a.key (pivot_keys (take f pivots)) ≡ k = last_taken a.key (a ∷ pivots) f d (omega arith) in
+    let new_last : last_or k (pivot_keys new) ≡ (get_or (map pivot_slot new) (length new - 1) s).key = last_of k new (length new - 1) s (omega arith) in
+    let back : rise (pivot_keys (drop t pivots)) ≡ true =
+    ap rise (keys_drop t pivots) ∙ rise_drop t (pivot_keys pivots) (above_rise a.key (pivot_keys pivots) sound.ascending) in
+    let back_above : rise_above (last_or k (pivot_keys new)) (pivot_keys (drop t pivots)) ≡ true =
+    above_first (last_or k (pivot_keys new)) (pivot_keys (drop t pivots)) back
+    (λ x rest is. let r = first_dropped pivots t d x rest is in
+    subst (λ z. IsUnder z x) (sym new_last) (subst (IsUnder (get_or (map pivot_slot new) (length new - 1) s).key) r.1 (over r.0))) in
+    let new_above : rise_above k (pivot_keys new ++ pivot_keys (drop t pivots)) ≡ true = rise_on k (pivot_keys new) (pivot_keys (drop t pivots)) n.1
+    back_above in
+    let front : rise_above a.key (pivot_keys (take f pivots)) ≡ true =
+    ap (rise_above a.key) (keys_take f pivots) ∙ rise_take a.key f (pivot_keys pivots) sound.ascending in
     record {
-      some = omega (arith, long_append (take f arms) (new ++ drop t arms), long_append new (drop t arms));
+      some = omega (arith, long_append (take f pivots) (new ++ drop t pivots), long_append new (drop t pivots));
       bare = sound.bare;
       each = (
         sound.each.0,
-        each_both (take f arms) (new ++ drop t arms) (each_take f arms sound.each.1)
-            (each_both new (drop t arms) n.0 (each_drop t arms sound.each.1)),
+        each_both (take f pivots) (new ++ drop t pivots) (each_take f pivots sound.each.1)
+            (each_both new (drop t pivots) n.0 (each_drop t pivots sound.each.1)),
       );
       ascending = ap (rise_above a.key) keys
-          ∙ rise_on a.key (arm_keys (take f arms)) (arm_keys new ++ arm_keys (drop t arms)) front
-          (ap (λ z. rise_above z (arm_keys new ++ arm_keys (drop t arms))) front_last ∙ new_above);
-      room = omega (arith, room, total_both (take f arms) (new ++ drop t arms), total_both new (drop t arms));
+          ∙ rise_on a.key (pivot_keys (take f pivots)) (pivot_keys new ++ pivot_keys (drop t pivots)) front
+          (ap (λ z. rise_above z (pivot_keys new ++ pivot_keys (drop t pivots))) front_last ∙ new_above);
+      room = omega (arith, room, total_both (take f pivots) (new ++ drop t pivots), total_both new (drop t pivots));
     }
 
-parts_total : (n : ℕ) (arms : List Arm) → total arm_size (take n arms) + total arm_size (drop n arms) ≡ total arm_size arms
-parts_total n arms = omega (arith, total_both (take n arms) (drop n arms), ap (total arm_size) (take_drop n arms))
+parts_total : (n : ℕ) (pivots : List Pivot) → total pivot_size (take n pivots) + total pivot_size (drop n pivots) ≡ total pivot_size pivots
+parts_total n pivots = omega (arith, total_both (take n pivots) (drop n pivots), ap (total pivot_size) (take_drop n pivots))
 
-pub between_sound : (from to : ℕ) (arms new : List Arm) (s : Stub) (d : Arm) → IsBranch arms → 0 < from → from ≤ to → to ≤ length arms
-    → GoBehind None 0 (map arm_stub new) → 0 < length new
-    → IsUnder (get_or arms (from - 1) d).key (get_or (map arm_stub new) 0 s).key
-    → (to < length arms → IsUnder (get_or (map arm_stub new) (length new - 1) s).key (get_or arms to d).key)
-    → arms_size (take from arms) + total arm_size new + (arms_size arms - arms_size (take to arms)) ≤ 4080 → IsBranch (exchanged from to new arms)
-between_sound zero to arms new s d sound some order within go more under over room = absurd (omega arith)
-between_sound (suc f) zero arms new s d sound some order within go more under over room = absurd (omega arith)
+pub between_sound : (from to : ℕ) (pivots new : List Pivot) (s : Slot) (d : Pivot) → IsBranch pivots → 0 < from → from ≤ to → to ≤ length pivots
+    → GoBehind None 0 (map pivot_slot new) → 0 < length new
+    → IsUnder (get_or pivots (from - 1) d).key (get_or (map pivot_slot new) 0 s).key
+    → (to < length pivots → IsUnder (get_or (map pivot_slot new) (length new - 1) s).key (get_or pivots to d).key)
+    → pivots_size (take from pivots) + total pivot_size new + (pivots_size pivots - pivots_size (take to pivots)) ≤ 4080
+    → IsBranch (exchanged from to new pivots)
+between_sound zero to pivots new s d sound some order within go more under over room = absurd (omega arith)
+between_sound (suc f) zero pivots new s d sound some order within go more under over room = absurd (omega arith)
 between_sound (suc f) (suc t) [] new s d sound some order within go more under over room = absurd (omega arith)
-between_sound (suc f) (suc t) (a ∷ arms) new s d sound some order within go more under over room =
+between_sound (suc f) (suc t) (a ∷ pivots) new s d sound some order within go more under over room =
     let less : suc f - 1 ≡ f = omega arith in
-    exchanged_sound f t a arms new s d sound (omega arith) go more
-    (subst (λ n. IsUnder (get_or (a ∷ arms) n d).key (get_or (map arm_stub new) 0 s).key) less under) (λ lt. over (omega arith))
-    (omega (arith, room, parts_total t arms))
+    exchanged_sound f t a pivots new s d sound (omega arith) go more
+    (subst (λ n. IsUnder (get_or (a ∷ pivots) n d).key (get_or (map pivot_slot new) 0 s).key) less under) (λ lt. over (omega arith))
+    (omega (arith, room, parts_total t pivots))
 
-some_size : (ss : List Stub) → 0 < length ss → 0 < stubs_size ss
+some_size : (ss : List Slot) → 0 < length ss → 0 < slots_size ss
 some_size [] some = absurd (omega arith)
 some_size (s ∷ ss) some = omega arith
 
 -- the same of children out of pages
-pub room_sound : (from to : ℕ) (arms new : List Arm) (ss : List Stub) (n start stop size : ℕ) (s : Stub) (d : Arm) → IsBranch arms → 0 < from
-    → from ≤ to → to ≤ length arms → ss ≡ map arm_stub new → n ≡ length ss → GoBehind None 0 ss → 0 < n
-    → IsUnder (get_or arms (from - 1) d).key (get_or ss 0 s).key → (to < length arms → IsUnder (get_or ss (n - 1) s).key (get_or arms to d).key)
-    → start ≡ arms_size (take from arms) → stop ≡ arms_size (take to arms) → size ≡ arms_size arms
-    → stubs_size ss ≤ 4080 - (start + (size - stop)) → IsBranch (exchanged from to new arms)
-room_sound from to arms new ss n start stop size s d sound some order within is long go more under over start_is stop_is size_is fit =
-    let count : n ≡ length new = omega (arith, long, ap length is, long_map arm_stub new) in
-    between_sound from to arms new s d sound some order within (subst (GoBehind None 0) is go) (omega (arith, count))
-    (subst (λ (l : List Stub). IsUnder (get_or arms (from - 1) d).key (get_or l 0 s).key) is under)
-    (λ lt. subst (λ k. IsUnder (get_or (map arm_stub new) (k - 1) s).key (get_or arms to d).key) count
-    (subst (λ (l : List Stub). IsUnder (get_or l (n - 1) s).key (get_or arms to d).key) is (over lt)))
-    (omega (arith, fit, start_is, stop_is, size_is, some_size ss (omega (arith, long)), ap stubs_size is, arms_total new))
+pub room_sound : (from to : ℕ) (pivots new : List Pivot) (ss : List Slot) (n start stop size : ℕ) (s : Slot) (d : Pivot) → IsBranch pivots → 0 < from
+    → from ≤ to → to ≤ length pivots → ss ≡ map pivot_slot new → n ≡ length ss → GoBehind None 0 ss → 0 < n
+    → IsUnder (get_or pivots (from - 1) d).key (get_or ss 0 s).key → (to < length pivots → IsUnder (get_or ss (n - 1) s).key (get_or pivots to d).key)
+    → start ≡ pivots_size (take from pivots) → stop ≡ pivots_size (take to pivots) → size ≡ pivots_size pivots
+    → slots_size ss ≤ 4080 - (start + (size - stop)) → IsBranch (exchanged from to new pivots)
+room_sound from to pivots new ss n start stop size s d sound some order within is long go more under over start_is stop_is size_is fit =
+    let count : n ≡ length new = omega (arith, long, ap length is, long_map pivot_slot new) in
+    between_sound from to pivots new s d sound some order within (subst (GoBehind None 0) is go) (omega (arith, count))
+    (subst (λ (l : List Slot). IsUnder (get_or pivots (from - 1) d).key (get_or l 0 s).key) is under)
+    (λ lt. subst (λ k. IsUnder (get_or (map pivot_slot new) (k - 1) s).key (get_or pivots to d).key) count
+    (subst (λ (l : List Slot). IsUnder (get_or l (n - 1) s).key (get_or pivots to d).key) is (over lt)))
+    (omega (arith, fit, start_is, stop_is, size_is, some_size ss (omega (arith, long)), ap slots_size is, pivots_total new))

@@ -7,7 +7,7 @@ use Rattle.std.proofs.lemmas.List.{length-map}
 use Rattle.page.specs.Content.{Item, IsLeaf, item_size, total}
 use Rattle.btree.specs.Keys.{Each, Pair, entry_of, times}
 use Rattle.btree.specs.Laws.{EntriesAreFew, PagesAreFew}
-use Rattle.btree.specs.Tree.{Body, IsFan, IsSound, IsWhole, Twig, high_of, item_of, pages_of, pairs_of, with_low}
+use Rattle.btree.specs.Tree.{Body, IsFan, IsSound, IsWhole, Subtree, high_of, item_of, pages_of, pairs_of, with_low}
 
 -- ---- entries
 
@@ -25,8 +25,8 @@ abbrev Lies : (d : ℕ) → List ℕ → Option (List ℕ) → Body d → Type 0
 Lies d low high body = IsWhole d body × IsSound d low high body
 
 fan_few : (d : ℕ) → ((low : List ℕ) (high : Option (List ℕ)) (body : Body d) → Lies d low high body → AreFew d body)
-    → (high : Option (List ℕ)) (twigs : List (Twig (Body d))) → IsFan (Lies d) high twigs
-    → length (pairs_of (suc d) twigs) ≤ 680 * length (pages_of (suc d) twigs)
+    → (high : Option (List ℕ)) (subtrees : List (Subtree (Body d))) → IsFan (Lies d) high subtrees
+    → length (pairs_of (suc d) subtrees) ≤ 680 * length (pages_of (suc d) subtrees)
 fan_few d few high [] fan = omega arith
 fan_few d few high (w ∷ ws) fan =
     omega (
@@ -37,18 +37,18 @@ fan_few d few high (w ∷ ws) fan =
       length-append (w.page ∷ pages_of d w.body) (pages_of (suc d) ws),
     )
 
-same_pairs : (d : ℕ) (low : List ℕ) (twigs : List (Twig (Body d))) → pairs_of (suc d) (with_low low twigs) ≡ pairs_of (suc d) twigs
+same_pairs : (d : ℕ) (low : List ℕ) (subtrees : List (Subtree (Body d))) → pairs_of (suc d) (with_low low subtrees) ≡ pairs_of (suc d) subtrees
 same_pairs d low [] = refl
 same_pairs d low (w ∷ ws) = refl
 
-same_pages : (d : ℕ) (low : List ℕ) (twigs : List (Twig (Body d))) → pages_of (suc d) (with_low low twigs) ≡ pages_of (suc d) twigs
+same_pages : (d : ℕ) (low : List ℕ) (subtrees : List (Subtree (Body d))) → pages_of (suc d) (with_low low subtrees) ≡ pages_of (suc d) subtrees
 same_pages d low [] = refl
 same_pages d low (w ∷ ws) = refl
 
 body_few : (d : ℕ) (low : List ℕ) (high : Option (List ℕ)) (body : Body d) → Lies d low high body → AreFew d body
 body_few zero low high pairs lies = omega (arith, leaf_few pairs lies.0)
-body_few (suc d) low high twigs lies =
-    omega (arith, fan_few d (body_few d) high (with_low low twigs) lies.1.0, ap length (same_pairs d low twigs), ap length (same_pages d low twigs))
+body_few (suc d) low high subtrees lies =
+    omega (arith, fan_few d (body_few d) high (with_low low subtrees) lies.1.0, ap length (same_pairs d low subtrees), ap length (same_pages d low subtrees))
 
 pub entries_are_few : EntriesAreFew
 entries_are_few s root pages entries (inl none) = omega (arith, ap length none.1.1)

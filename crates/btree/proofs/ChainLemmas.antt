@@ -265,7 +265,7 @@ drop_on value left pos =
 pub other_kind : (p : PageContent) → ((next : ℕ) (bytes : Vec ℕ Global) → p ≡ P.Chain next bytes → ⊥) → (next : ℕ) (bytes : List ℕ)
     → content_in p ≡ chain next bytes → ⊥
 other_kind (P.Leaf items) differs next bytes e = cc
-other_kind (P.Branch arms) differs next bytes e = cc
+other_kind (P.Branch pivots) differs next bytes e = cc
 other_kind (P.Chain n b) differs next bytes e = differs n b refl
 other_kind (P.FreeList n b) differs next bytes e = cc
 

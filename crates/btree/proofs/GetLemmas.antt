@@ -4,10 +4,11 @@ use Rattle.std.proofs.Common.{Bool, true, false, refl, sym, ap, ◌∙◌, subst
 use Rattle.std.specs.Ordering.{is_eq}
 use Rattle.std.specs.List.{flat_map}
 use Rattle.btree.specs.Keys.{Entry, Pair, entry_of, value_at, Each, Rises, IsUnder, IsNotUnder, IsWithin, IsPast, IsBetween, key_cmp, find}
-use Rattle.page.specs.Content.{Item, Arm, Content, leaf, branch, chain, free_list, item_keys}
+use Rattle.page.specs.Content.{Item, Pivot, Content, leaf, branch, chain, free_list, item_keys}
 use Rattle.btree.specs.Store.{Store, Frame, HasCause}
 use Rattle.btree.specs.Search.{IsPlace, IsChildPlace, AreBounds, LieBetween}
-use Rattle.btree.specs.Tree.{Twig, Body, IsTree, high_of, twig_keys, pair_keys, pairs_of, entries_of, IsSound, Shows, HasChain, content_of, item_of, arm_of}
+use Rattle.btree.specs.Tree.{Subtree, Body, IsTree, high_of, subtree_keys, pair_keys, pairs_of, entries_of, IsSound, Shows, HasChain, content_of, item_of}
+use Rattle.btree.specs.Tree.{pivot_of}
 use Rattle.btree.specs.Tree.{place_of}
 use Rattle.btree.specs.Calls.{IsAnswer, IsPart, IsPlaceOf}
 use Rattle.page.specs.declared.cells.Stored.{Stored}
@@ -29,15 +30,16 @@ each_keys : (P : List ℕ → Type 0) (pairs : List Pair) → Each P (pair_keys 
 each_keys P [] h = tt
 each_keys P (x ∷ xs) h = (h.0, each_keys P xs h.1)
 
-each_arms : {B : Type 0} (low : List ℕ) (high : Option (List ℕ)) (ws : List (Twig B)) → Each (IsUnder low) (twig_keys ws) → Each (IsWithin high) (twig_keys ws)
-    → Each (IsBetween low high) (map (λ x. x.key) (map arm_of ws))
-each_arms low high [] h g = tt
-each_arms low high (w ∷ ws) h g = ((not_both low w.key h.0, g.0), each_arms low high ws h.1 g.1)
+each_pivots : {B : Type 0} (low : List ℕ) (high : Option (List ℕ)) (ws : List (Subtree B)) → Each (IsUnder low) (subtree_keys ws)
+    → Each (IsWithin high) (subtree_keys ws)
+    → Each (IsBetween low high) (map (λ x. x.key) (map pivot_of ws))
+each_pivots low high [] h g = tt
+each_pivots low high (w ∷ ws) h g = ((not_both low w.key h.0, g.0), each_pivots low high ws h.1 g.1)
 
 pub lie_between : (d : ℕ) (low : List ℕ) (high : Option (List ℕ)) (body : Body d) → IsSound d low high body → LieBetween low high (content_of d body)
 lie_between zero low high pairs h = each_keys (IsBetween low high) pairs h.1
 lie_between (suc d) low high [] h = tt
-lie_between (suc d) low high (w ∷ ws) h = each_arms low high ws h.1.0 h.2.1
+lie_between (suc d) low high (w ∷ ws) h = each_pivots low high ws h.1.0 h.2.1
 
 -- ---- a step down
 
@@ -48,40 +50,40 @@ pub record Step (s : Store) (child level : ℕ) (from : List ℕ) (to : Option (
   pub between : IsBetween from to key
   pub found : find key pairs ≡ find key (pairs_of d body)
 
-pub from_is : {B : Type 0} (low : List ℕ) (high : Option (List ℕ)) (front : List (Twig B)) (w : Twig B) (back : List (Twig B)) (from : List ℕ)
+pub from_is : {B : Type 0} (low : List ℕ) (high : Option (List ℕ)) (front : List (Subtree B)) (w : Subtree B) (back : List (Subtree B)) (from : List ℕ)
     (to : Option (List ℕ))
-    → AreBounds low high (map arm_of (front ++ w ∷ back)) (length front) from to → from ≡ low_of low front w.key
+    → AreBounds low high (map pivot_of (front ++ w ∷ back)) (length front) from to → from ≡ low_of low front w.key
 from_is low high [] w back from to h = h.first refl
 from_is low high (f ∷ fs) w back from to h =
-    h.later (arm_of w) (omega arith) ∙ ap (λ xs. (get_or xs (length (f ∷ fs)) (arm_of w)).key) (map_append arm_of (f ∷ fs) (w ∷ back))
-    ∙ ap (λ n. (get_or (map arm_of (f ∷ fs) ++ arm_of w ∷ map arm_of back) n (arm_of w)).key) (sym (long_map arm_of (f ∷ fs)))
-    ∙ ap (λ a. a.key) (get_here (map arm_of (f ∷ fs)) (arm_of w) (map arm_of back) (arm_of w))
+    h.later (pivot_of w) (omega arith) ∙ ap (λ xs. (get_or xs (length (f ∷ fs)) (pivot_of w)).key) (map_append pivot_of (f ∷ fs) (w ∷ back))
+    ∙ ap (λ n. (get_or (map pivot_of (f ∷ fs) ++ pivot_of w ∷ map pivot_of back) n (pivot_of w)).key) (sym (long_map pivot_of (f ∷ fs)))
+    ∙ ap (λ a. a.key) (get_here (map pivot_of (f ∷ fs)) (pivot_of w) (map pivot_of back) (pivot_of w))
 
-place_next : {B : Type 0} (front : List (Twig B)) (w v : Twig B) (back : List (Twig B)) (e : Arm)
-    → get_or (map arm_of (front ++ w ∷ v ∷ back)) (length front + 1) e ≡ arm_of v
+place_next : {B : Type 0} (front : List (Subtree B)) (w v : Subtree B) (back : List (Subtree B)) (e : Pivot)
+    → get_or (map pivot_of (front ++ w ∷ v ∷ back)) (length front + 1) e ≡ pivot_of v
 place_next front w v back e =
-    ap (λ xs. get_or xs (length front + 1) e) (map_append arm_of front (w ∷ v ∷ back))
-    ∙ ap (λ n. get_or (map arm_of front ++ arm_of w ∷ arm_of v ∷ map arm_of back) (n + 1) e) (sym (long_map arm_of front))
-    ∙ get_next (map arm_of front) (arm_of w) (arm_of v) (map arm_of back) e
+    ap (λ xs. get_or xs (length front + 1) e) (map_append pivot_of front (w ∷ v ∷ back))
+    ∙ ap (λ n. get_or (map pivot_of front ++ pivot_of w ∷ pivot_of v ∷ map pivot_of back) (n + 1) e) (sym (long_map pivot_of front))
+    ∙ get_next (map pivot_of front) (pivot_of w) (pivot_of v) (map pivot_of back) e
 
-pub place_here : {B : Type 0} (front : List (Twig B)) (w : Twig B) (back : List (Twig B)) (e : Arm)
-    → get_or (map arm_of (front ++ w ∷ back)) (length front) e ≡ arm_of w
+pub place_here : {B : Type 0} (front : List (Subtree B)) (w : Subtree B) (back : List (Subtree B)) (e : Pivot)
+    → get_or (map pivot_of (front ++ w ∷ back)) (length front) e ≡ pivot_of w
 place_here front w back e =
-    ap (λ xs. get_or xs (length front) e) (map_append arm_of front (w ∷ back))
-    ∙ ap (λ n. get_or (map arm_of front ++ arm_of w ∷ map arm_of back) n e) (sym (long_map arm_of front))
-    ∙ get_here (map arm_of front) (arm_of w) (map arm_of back) e
+    ap (λ xs. get_or xs (length front) e) (map_append pivot_of front (w ∷ back))
+    ∙ ap (λ n. get_or (map pivot_of front ++ pivot_of w ∷ map pivot_of back) n e) (sym (long_map pivot_of front))
+    ∙ get_here (map pivot_of front) (pivot_of w) (map pivot_of back) e
 
-arms_long : {B : Type 0} (front : List (Twig B)) (w : Twig B) (back : List (Twig B))
-    → length (map arm_of (front ++ w ∷ back)) ≡ length front + suc (length back)
-arms_long [] w back = omega (arith, long_map arm_of back)
-arms_long (f ∷ fs) w back = omega (arith, arms_long fs w back)
+pivots_long : {B : Type 0} (front : List (Subtree B)) (w : Subtree B) (back : List (Subtree B))
+    → length (map pivot_of (front ++ w ∷ back)) ≡ length front + suc (length back)
+pivots_long [] w back = omega (arith, long_map pivot_of back)
+pivots_long (f ∷ fs) w back = omega (arith, pivots_long fs w back)
 
-pub to_is : {B : Type 0} (low : List ℕ) (high : Option (List ℕ)) (front : List (Twig B)) (w : Twig B) (back : List (Twig B)) (from : List ℕ)
+pub to_is : {B : Type 0} (low : List ℕ) (high : Option (List ℕ)) (front : List (Subtree B)) (w : Subtree B) (back : List (Subtree B)) (from : List ℕ)
     (to : Option (List ℕ))
-    → AreBounds low high (map arm_of (front ++ w ∷ back)) (length front) from to → to ≡ high_of high back
-to_is low high front w [] from to h = h.last (omega (arith, arms_long front w []))
+    → AreBounds low high (map pivot_of (front ++ w ∷ back)) (length front) from to → to ≡ high_of high back
+to_is low high front w [] from to h = h.last (omega (arith, pivots_long front w []))
 to_is low high front w (v ∷ vs) from to h =
-    h.inner (arm_of v) (omega (arith, arms_long front w (v ∷ vs))) ∙ ap (λ a. Some a.key) (place_next front w v vs (arm_of v))
+    h.inner (pivot_of v) (omega (arith, pivots_long front w (v ∷ vs))) ∙ ap (λ a. Some a.key) (place_next front w v vs (pivot_of v))
 
 not_equal_before : (from key : List ℕ) (xs : List Pair) → IsNotUnder key from → Each (λ x. IsUnder x.key from) xs
     → Each (λ x. is_eq (key_cmp x.key key) ≡ false) xs
@@ -93,31 +95,32 @@ not_equal_after None key xs h = each_map _ _ (λ x u. absurd u) xs
 not_equal_after (Some high) key xs h = each_map _ _ (λ x u. differs_over x.key key (under_then_up_to key high x.key h u)) xs
 
 -- in bounds, the child at its place
-pub child_bounds : (d : ℕ) (low : List ℕ) (high : Option (List ℕ)) (front : List (Twig (Body d))) (w : Twig (Body d)) (back : List (Twig (Body d)))
+pub child_bounds : (d : ℕ) (low : List ℕ) (high : Option (List ℕ)) (front : List (Subtree (Body d))) (w : Subtree (Body d)) (back : List (Subtree (Body d)))
     (key : List ℕ)
-    → IsChildPlace (map arm_of (front ++ w ∷ back)) key (length front) → IsBetween low high key → IsBetween (low_of low front w.key) (high_of high back) key
+    → IsChildPlace (map pivot_of (front ++ w ∷ back)) key (length front) → IsBetween low high key → IsBetween (low_of low front w.key) (high_of high back) key
 child_bounds d low high front w back key place h = (from_below front place, to_above back place)
   where
-    from_below : (front : List (Twig (Body d))) → IsChildPlace (map arm_of (front ++ w ∷ back)) key (length front) → IsNotUnder key (low_of low front w.key)
+    from_below : (front : List (Subtree (Body d))) → IsChildPlace (map pivot_of (front ++ w ∷ back)) key (length front)
+        → IsNotUnder key (low_of low front w.key)
     from_below [] p = h.0
-    from_below (f ∷ fs) p = subst (λ (a : Arm). IsNotUnder key a.key) (place_here (f ∷ fs) w back (arm_of w)) (p.below (arm_of w) (omega arith))
+    from_below (f ∷ fs) p = subst (λ (a : Pivot). IsNotUnder key a.key) (place_here (f ∷ fs) w back (pivot_of w)) (p.below (pivot_of w) (omega arith))
 
-    to_above : (back : List (Twig (Body d))) → IsChildPlace (map arm_of (front ++ w ∷ back)) key (length front) → IsWithin (high_of high back) key
+    to_above : (back : List (Subtree (Body d))) → IsChildPlace (map pivot_of (front ++ w ∷ back)) key (length front) → IsWithin (high_of high back) key
     to_above [] p = h.1
     to_above (v ∷ vs) p =
-        subst (λ (a : Arm). IsUnder key a.key) (place_next front w v vs (arm_of v)) (p.above (arm_of v) (omega (arith, arms_long front w (v ∷ vs))))
+        subst (λ (a : Pivot). IsUnder key a.key) (place_next front w v vs (pivot_of v)) (p.above (pivot_of v) (omega (arith, pivots_long front w (v ∷ vs))))
 
 -- the same where the child is known
-pub record StepAt (s : Store) (level d : ℕ) (w : Twig (Body d)) (from : List ℕ) (to : Option (List ℕ)) (key : List ℕ) (pairs : List Pair) : Type 0 where
+pub record StepAt (s : Store) (level d : ℕ) (w : Subtree (Body d)) (from : List ℕ) (to : Option (List ℕ)) (key : List ℕ) (pairs : List Pair) : Type 0 where
   pub part : IsPart s w.page level d from to w.body
   pub between : IsBetween from to key
   pub found : find key pairs ≡ find key (pairs_of d w.body)
 
-pub descend_at : (s : Store) (page level d : ℕ) (low : List ℕ) (high : Option (List ℕ)) (front : List (Twig (Body d))) (w : Twig (Body d))
-    (back : List (Twig (Body d)))
+pub descend_at : (s : Store) (page level d : ℕ) (low : List ℕ) (high : Option (List ℕ)) (front : List (Subtree (Body d))) (w : Subtree (Body d))
+    (back : List (Subtree (Body d)))
     (from : List ℕ) (to : Option (List ℕ)) (key : List ℕ) → IsPart s page level (suc d) low high (front ++ w ∷ back)
-    → IsChildPlace (map arm_of (front ++ w ∷ back)) key (length front)
-    → AreBounds low high (map arm_of (front ++ w ∷ back)) (length front) from to → IsBetween low high key
+    → IsChildPlace (map pivot_of (front ++ w ∷ back)) key (length front)
+    → AreBounds low high (map pivot_of (front ++ w ∷ back)) (length front) from to → IsBetween low high key
     → StepAt s (level + 1) d w from to key (pairs_of (suc d) (front ++ w ∷ back))
 descend_at s page level d low high front w back from to key part place bounds within =
     let a = around_child d low high front w back part.sound in
@@ -137,29 +140,29 @@ descend_at s page level d low high front w back from to key part place bounds wi
           ∙ find_stop key (pairs_of d w.body) _ (not_equal_after _ key _ here.1 a.after);
     }
 
-pub descend : (s : Store) (page level d : ℕ) (low : List ℕ) (high : Option (List ℕ)) (body : Body d) (arms : List Arm) (i child : ℕ)
-    (from : List ℕ) (to : Option (List ℕ)) (key : List ℕ) → branch arms ≡ content_of d body → IsPart s page level d low high body → IsChildPlace arms key i
-    → AreBounds low high arms i from to → ((e : Arm) → (get_or arms i e).child ≡ child) → IsBetween low high key
+pub descend : (s : Store) (page level d : ℕ) (low : List ℕ) (high : Option (List ℕ)) (body : Body d) (pivots : List Pivot) (i child : ℕ)
+    (from : List ℕ) (to : Option (List ℕ)) (key : List ℕ) → branch pivots ≡ content_of d body → IsPart s page level d low high body → IsChildPlace pivots key i
+    → AreBounds low high pivots i from to → ((e : Pivot) → (get_or pivots i e).child ≡ child) → IsBetween low high key
     → Step s child (level + 1) from to key (pairs_of d body)
-descend s page level zero low high pairs arms i child from to key e part place bounds is within = cc
-descend s page level (suc d) low high twigs arms i child from to key e part place bounds is within =
-    let same : arms ≡ map arm_of twigs = cc in
-    let long : length arms ≡ length twigs = ap length same ∙ long_map arm_of twigs in
-    let lt : i < length twigs = omega (arith, place.within) in
-    let c = at_place twigs i lt in
-    let arms_are : arms ≡ map arm_of (c.front ++ c.mid ∷ c.back) = same ∙ ap (map arm_of) c.is in
-    let P : List Arm → ℕ → Type 0 = λ zs n. IsChildPlace zs key n in
-    let Q : List Arm → ℕ → Type 0 = λ zs n. AreBounds low high zs n from to in
-    let place' : IsChildPlace (map arm_of (c.front ++ c.mid ∷ c.back)) key (length c.front) =
-    subst (λ n. P (map arm_of (c.front ++ c.mid ∷ c.back)) n) (sym c.place) (subst (λ zs. P zs i) arms_are place) in
-    let bounds' : AreBounds low high (map arm_of (c.front ++ c.mid ∷ c.back)) (length c.front) from to =
-    subst (λ n. Q (map arm_of (c.front ++ c.mid ∷ c.back)) n) (sym c.place) (subst (λ zs. Q zs i) arms_are bounds) in
+descend s page level zero low high pairs pivots i child from to key e part place bounds is within = cc
+descend s page level (suc d) low high subtrees pivots i child from to key e part place bounds is within =
+    let same : pivots ≡ map pivot_of subtrees = cc in
+    let long : length pivots ≡ length subtrees = ap length same ∙ long_map pivot_of subtrees in
+    let lt : i < length subtrees = omega (arith, place.within) in
+    let c = at_place subtrees i lt in
+    let pivots_are : pivots ≡ map pivot_of (c.front ++ c.mid ∷ c.back) = same ∙ ap (map pivot_of) c.is in
+    let P : List Pivot → ℕ → Type 0 = λ zs n. IsChildPlace zs key n in
+    let Q : List Pivot → ℕ → Type 0 = λ zs n. AreBounds low high zs n from to in
+    let place' : IsChildPlace (map pivot_of (c.front ++ c.mid ∷ c.back)) key (length c.front) =
+    subst (λ n. P (map pivot_of (c.front ++ c.mid ∷ c.back)) n) (sym c.place) (subst (λ zs. P zs i) pivots_are place) in
+    let bounds' : AreBounds low high (map pivot_of (c.front ++ c.mid ∷ c.back)) (length c.front) from to =
+    subst (λ n. Q (map pivot_of (c.front ++ c.mid ∷ c.back)) n) (sym c.place) (subst (λ zs. Q zs i) pivots_are bounds) in
     let part' : IsPart s page level (suc d) low high (c.front ++ c.mid ∷ c.back) =
-    subst (λ (ts : List (Twig (Body d))). IsPart s page level (suc d) low high ts) c.is part in
+    subst (λ (ts : List (Subtree (Body d))). IsPart s page level (suc d) low high ts) c.is part in
     let page_is : c.mid.page ≡ child =
-    sym (ap (λ a. a.child) (place_here c.front c.mid c.back (arm_of c.mid)))
-    ∙ ap (λ n. (get_or (map arm_of (c.front ++ c.mid ∷ c.back)) n (arm_of c.mid)).child) c.place
-    ∙ ap (λ zs. (get_or zs i (arm_of c.mid)).child) (sym arms_are) ∙ is (arm_of c.mid) in
+    sym (ap (λ a. a.child) (place_here c.front c.mid c.back (pivot_of c.mid)))
+    ∙ ap (λ n. (get_or (map pivot_of (c.front ++ c.mid ∷ c.back)) n (pivot_of c.mid)).child) c.place
+    ∙ ap (λ zs. (get_or zs i (pivot_of c.mid)).child) (sym pivots_are) ∙ is (pivot_of c.mid) in
     let t = descend_at s page level d low high c.front c.mid c.back from to key part' place' bounds' within in
     record {
       d = d;
@@ -324,24 +327,25 @@ some_failed bytes old new key pairs stored (Err f) e shown h is says = subst (Ha
 pub leaf_pairs : (d : ℕ) (low : List ℕ) (high : Option (List ℕ)) (body : Body d) (items : List Item) → leaf items ≡ content_of d body → IsSound d low high body
     → (items ≡ map item_of (pairs_of d body)) × Rises (pair_keys (pairs_of d body))
 leaf_pairs zero low high pairs items e h = ((cc), h.0)
-leaf_pairs (suc d) low high twigs items e h = cc
+leaf_pairs (suc d) low high subtrees items e h = cc
 
 -- what holds of every branch with these arms holds of a body whose page has them
-pub open_branch : (C : (d : ℕ) → Body d → Type 0) (arms : List Arm) → ((d : ℕ) (twigs : Body (suc d)) → arms ≡ map arm_of twigs → C (suc d) twigs)
-    → (d : ℕ) (body : Body d) → branch arms ≡ content_of d body → C d body
-open_branch C arms says zero pairs e = cc
-open_branch C arms says (suc d) twigs e = let same : arms ≡ map arm_of twigs = cc in says d twigs same
+pub open_branch : (C : (d : ℕ) → Body d → Type 0) (pivots : List Pivot)
+    → ((d : ℕ) (subtrees : Body (suc d)) → pivots ≡ map pivot_of subtrees → C (suc d) subtrees)
+    → (d : ℕ) (body : Body d) → branch pivots ≡ content_of d body → C d body
+open_branch C pivots says zero pairs e = cc
+open_branch C pivots says (suc d) subtrees e = let same : pivots ≡ map pivot_of subtrees = cc in says d subtrees same
 
 pub open_leaf : (C : (d : ℕ) → Body d → Type 0) (items : List Item) → ((pairs : List Pair) → items ≡ map item_of pairs → C zero pairs)
     → (d : ℕ) (body : Body d) → leaf items ≡ content_of d body → C d body
 open_leaf C items says zero pairs e = let same : items ≡ map item_of pairs = cc in says pairs same
-open_leaf C items says (suc d) twigs e = cc
+open_leaf C items says (suc d) subtrees e = cc
 
 -- a child is a part of its own
-pub child_part : (s : Store) (page level d : ℕ) (low : List ℕ) (high : Option (List ℕ)) (front : List (Twig (Body d))) (w : Twig (Body d))
-    (back : List (Twig (Body d)))
+pub child_part : (s : Store) (page level d : ℕ) (low : List ℕ) (high : Option (List ℕ)) (front : List (Subtree (Body d))) (w : Subtree (Body d))
+    (back : List (Subtree (Body d)))
     (from : List ℕ) (to : Option (List ℕ)) → IsPart s page level (suc d) low high (front ++ w ∷ back)
-    → AreBounds low high (map arm_of (front ++ w ∷ back)) (length front) from to → IsPart s w.page (level + 1) d from to w.body
+    → AreBounds low high (map pivot_of (front ++ w ∷ back)) (length front) from to → IsPart s w.page (level + 1) d from to w.body
 child_part s page level d low high front w back from to part bounds =
     let a = around_child d low high front w back part.sound in
     let shown = each_back _ front (w ∷ back) part.shown in
@@ -352,14 +356,15 @@ child_part s page level d low high front w back from to part bounds =
     subst (λ f. IsSound d f to w.body) (sym ef) (subst (λ t. IsSound d (low_of low front w.key) t w.body) (sym et) a.mid.1) in
     record { at = shown.0.0; shown = shown.0.1; whole = a.mid.0; sound = sound; depth = omega arith }
 
-pub branch_room : (s : Store) (page level d : ℕ) (low : List ℕ) (high : Option (List ℕ)) (body : Body d) (arms : List Arm) → branch arms ≡ content_of d body
+pub branch_room : (s : Store) (page level d : ℕ) (low : List ℕ) (high : Option (List ℕ)) (body : Body d) (pivots : List Pivot)
+    → branch pivots ≡ content_of d body
     → IsPart s page level d low high body
-    → (level < 31) × (1 < length arms)
-branch_room s page level zero low high pairs arms e p = cc
-branch_room s page level (suc d) low high twigs arms e p =
-    let same : arms ≡ map arm_of twigs = cc in
+    → (level < 31) × (1 < length pivots)
+branch_room s page level zero low high pairs pivots e p = cc
+branch_room s page level (suc d) low high subtrees pivots e p =
+    let same : pivots ≡ map pivot_of subtrees = cc in
     let deep : suc d + level < 32 = p.depth in
-    (omega arith, omega (arith, ap (λ (zs : List Arm). length zs) same, p.whole.some))
+    (omega arith, omega (arith, ap (λ (zs : List Pivot). length zs) same, p.whole.some))
 
 pub looks_later : {V : Type 0} (bytes : V → List ℕ) (old mid new : Store) (key : List ℕ) (pairs below : List Pair) (r : Result (Option V) TreeFault)
     → Frame old mid → find key pairs ≡ find key below
@@ -376,10 +381,10 @@ module _ (old : Store) (page level : ℕ) (low : List ℕ) (high : Option (List 
   not_between content r holds says fails d body part =
       let yes : r ≡ true = says (subst (LieBetween low high) (sym part.at.holds ∙ holds) (lie_between d low high body part.sound)) in cc
 
-  pub too_deep : (arms : List Arm) → old.page page ≡ branch arms → (31 ≤ level) ⊎ (length arms ≡ 0)
+  pub too_deep : (pivots : List Pivot) → old.page page ≡ branch pivots → (31 ≤ level) ⊎ (length pivots ≡ 0)
       → (d : ℕ) (body : Body d) → IsPart old page level d low high body → ⊥
-  too_deep arms holds why d body part =
-      let r = branch_room old page level d low high body arms (sym holds ∙ part.at.holds) part in
+  too_deep pivots holds why d body part =
+      let r = branch_room old page level d low high body pivots (sym holds ∙ part.at.holds) part in
       elim why [ inl deep ↦ omega (arith, r.0) | inr none ↦ omega (arith, r.1) ]
 
   pub in_leaf : {V : Type 0} (bytes : V → List ℕ) (mid new : Store) (items : List Item) (key : List ℕ) (r : Result (Option V) TreeFault) → Frame old mid
@@ -389,42 +394,43 @@ module _ (old : Store) (page level : ℕ) (low : List ℕ) (high : Option (List 
   in_leaf bytes mid new items key r grows holds says zero pairs part =
       let l = leaf_pairs zero low high pairs items (sym holds ∙ part.at.holds) part.sound in
       looks_later bytes old mid new key pairs pairs r grows refl (says pairs l.0 l.1 (shows_kept old mid grows zero pairs part.shown))
-  in_leaf bytes mid new items key r grows holds says (suc d) twigs part = no_leaf (sym holds ∙ part.at.holds)
+  in_leaf bytes mid new items key r grows holds says (suc d) subtrees part = no_leaf (sym holds ∙ part.at.holds)
     where
-      no_leaf : leaf items ≡ branch (map arm_of twigs) → IsLooked bytes old new key (entries_of (suc d) twigs) r
+      no_leaf : leaf items ≡ branch (map pivot_of subtrees) → IsLooked bytes old new key (entries_of (suc d) subtrees) r
       no_leaf h = cc
 
-  pub in_child : {V : Type 0} (bytes : V → List ℕ) (mid new : Store) (arms : List Arm) (i : ℕ) (from : List ℕ) (to : Option (List ℕ)) (child : ℕ)
+  pub in_child : {V : Type 0} (bytes : V → List ℕ) (mid new : Store) (pivots : List Pivot) (i : ℕ) (from : List ℕ) (to : Option (List ℕ)) (child : ℕ)
       (key : List ℕ) (r : Result (Option V) TreeFault)
-      → old.page page ≡ branch arms → Frame old mid → IsChildPlace arms key i → AreBounds low high arms i from to
-      → ((e : Arm) → (get_or arms i e).child ≡ child)
+      → old.page page ≡ branch pivots → Frame old mid → IsChildPlace pivots key i → AreBounds low high pivots i from to
+      → ((e : Pivot) → (get_or pivots i e).child ≡ child)
       → ((d : ℕ) (body : Body d) → IsPart mid child (level + 1) d from to body → IsBetween from to key → IsLooked bytes mid new key (entries_of d body) r)
       → (d : ℕ) (body : Body d) → IsPart old page level d low high body → IsBetween low high key → IsLooked bytes old new key (entries_of d body) r
-  in_child bytes mid new arms i from to child key r holds grows place bounds here says d body part within =
-      let s = descend old page level d low high body arms i child from to key (sym holds ∙ part.at.holds) part place bounds here within in
+  in_child bytes mid new pivots i from to child key r holds grows place bounds here says d body part within =
+      let s = descend old page level d low high body pivots i child from to key (sym holds ∙ part.at.holds) part place bounds here within in
       looks_later bytes old mid new key (pairs_of d body) (pairs_of s.d s.body) r grows s.found
       (says s.d s.body (part_kept old mid grows child (level + 1) s.d from to s.body s.part) s.between)
 
   pub no_kind : (content : PageContent) → old.page page ≡ content_in content → ((l : List Item) → content ≡ P.Leaf l → ⊥)
-      → ((b : List Arm) → content ≡ P.Branch b → ⊥)
+      → ((b : List Pivot) → content ≡ P.Branch b → ⊥)
       → (d : ℕ) (body : Body d) → IsPart old page level d low high body → ⊥
   no_kind content holds no_leaf no_branch d body part = go content (sym holds ∙ part.at.holds) no_leaf no_branch
     where
-      other : (c : Content) → (d : ℕ) (body : Body d) → c ≡ content_of d body → ((is : List Item) → c ≡ leaf is → ⊥) → ((bs : List Arm) → c ≡ branch bs → ⊥) → ⊥
+      other : (c : Content) → (d : ℕ) (body : Body d) → c ≡ content_of d body → ((is : List Item) → c ≡ leaf is → ⊥) → ((bs : List Pivot) → c ≡ branch bs → ⊥)
+          → ⊥
       other c zero pairs h l b = l _ h
-      other c (suc d) twigs h l b = b _ h
+      other c (suc d) subtrees h l b = b _ h
 
-      go : (p : PageContent) → content_in p ≡ content_of d body → ((l : List Item) → p ≡ P.Leaf l → ⊥) → ((b : List Arm) → p ≡ P.Branch b → ⊥) → ⊥
+      go : (p : PageContent) → content_in p ≡ content_of d body → ((l : List Item) → p ≡ P.Leaf l → ⊥) → ((b : List Pivot) → p ≡ P.Branch b → ⊥) → ⊥
       go (P.Leaf l) h nl nb = nl l refl
       go (P.Branch b) h nl nb = nb b refl
       go (P.Chain next bytes) h nl nb = other (chain next bytes.items) d body h (λ is k. cc) (λ bs k. cc)
       go (P.FreeList next pages) h nl nb = other (free_list next pages.items) d body h (λ is k. cc) (λ bs k. cc)
 
-pub bounds_are : (low : List ℕ) (high : Option (List ℕ)) (arms : List Arm) (i : ℕ) (from : List ℕ) (to : Option (List ℕ))
-    → (i ≡ 0 → from ≡ low) → ((d : Arm) → 0 < i → from ≡ (get_or arms i d).key)
-    → (length arms ≤ i + 1 → to ≡ high) → ((d : Arm) → i + 1 < length arms → to ≡ Some (get_or arms (i + 1) d).key)
-    → AreBounds low high arms i from to
-bounds_are low high arms i from to first later last inner = record { first = first; later = later; last = last; inner = inner }
+pub bounds_are : (low : List ℕ) (high : Option (List ℕ)) (pivots : List Pivot) (i : ℕ) (from : List ℕ) (to : Option (List ℕ))
+    → (i ≡ 0 → from ≡ low) → ((d : Pivot) → 0 < i → from ≡ (get_or pivots i d).key)
+    → (length pivots ≤ i + 1 → to ≡ high) → ((d : Pivot) → i + 1 < length pivots → to ≡ Some (get_or pivots (i + 1) d).key)
+    → AreBounds low high pivots i from to
+bounds_are low high pivots i from to first later last inner = record { first = first; later = later; last = last; inner = inner }
 
 -- ---- the root
 

@@ -8,14 +8,14 @@ use Rattle.std.specs.Cmp.Lexicographic.{slice_cmp}
 use Rattle.std.specs.declared.cmp.Ordering.{Ordering}
 use Rattle.std.specs.declared.cmp.Ordering.TheVariants.{Less, Equal, Greater}
 use Rattle.page.specs.Content.{Item, IsItem, IsLeaf, inline, is_below, item_keys, item_size, leaf, rise, rise_above, total}
-use Rattle.btree.specs.declared.loose.Loose.{Loose}
+use Rattle.btree.specs.declared.node.LooseNode.{LooseNode}
 use Rattle.btree.specs.declared.pages.TreeFault.{TreeFault}
 use Rattle.btree.specs.declared.editing.Edit.{Edit as ProgramEdit}
 use Rattle.btree.specs.EditView.{edit_in}
 use Rattle.btree.specs.Calls.{IsAnswer, IsEdited, IsPutIn, IsStored, IsTakenOut}
 use Rattle.btree.specs.Few.{IsFew, edit_room}
 use Rattle.btree.specs.Keys.{Each, Edit, IsNotUnder, IsUnder, Pair, Rises, change, entry_of, key_cmp, sum_of, times}
-use Rattle.btree.specs.Loose.{IsStub, Stub, arm_stub, pair_stub, stubs_size}
+use Rattle.btree.specs.Loose.{IsSlot, Slot, pivot_slot, pair_slot, slots_size}
 use Rattle.btree.specs.Search.{IsGap, IsPlace}
 use Rattle.btree.specs.Store.{Frame, IsAt, IsMade, Store}
 use Rattle.btree.specs.Tree.{HasChain, IsSound, Shows, item_of, pages_of, pair_keys}
@@ -253,13 +253,13 @@ abbrev pub none : List ℕ → Item
 none key = record { key = key; place = inline [] }
 
 pub leaf_written : (old new : Store) (base rank page : ℕ) (low key : List ℕ) (high : Option (List ℕ)) (items : List Item) (pairs : List Pair)
-    (stubs : List Stub) → rank ≡ base → items ≡ map item_of pairs → IsLeaf items
+    (slots : List Slot) → rank ≡ base → items ≡ map item_of pairs → IsLeaf items
     → IsSound zero low high pairs → Shows old zero pairs → IsMade old new page (leaf items) → key ≡ (get_or items 0 (none key)).key → page < 2 ^ 32
-    → stubs ≡ arm_stub (record { key = key; child = page }) ∷ []
-    → IsTurned old new base low high (map entry_of pairs) (pages_of zero pairs) (record { rank = rank + 1; stubs = stubs })
-leaf_written old new base rank page low key high items [] stubs is same sound lies shown m first range stubs_are =
+    → slots ≡ pivot_slot (record { key = key; child = page }) ∷ []
+    → IsTurned old new base low high (map entry_of pairs) (pages_of zero pairs) (record { rank = rank + 1; slots = slots })
+leaf_written old new base rank page low key high items [] slots is same sound lies shown m first range slots_are =
     absurd (omega (arith, sound.some, ap length same))
-leaf_written old new base rank page low key high items (x ∷ xs) stubs is same sound lies shown m first range stubs_are =
+leaf_written old new base rank page low key high items (x ∷ xs) slots is same sound lies shown m first range slots_are =
     let key_is : key ≡ x.key = first ∙ ap (λ (zs : List Item). (get_or zs 0 (none key)).key) same in
     let whole : IsLeaf (map item_of (x ∷ xs)) = subst IsLeaf same sound in
     record {
@@ -268,10 +268,10 @@ leaf_written old new base rank page low key high items (x ∷ xs) stubs is same 
         d = suc zero;
         body = record { key = x.key; page = page; body = x ∷ xs } ∷ [];
         rank_is = λ lt. omega arith;
-        stubs_are = stubs_are ∙ ap (λ k. arm_stub (record { key = k; child = page }) ∷ []) key_is;
-        small = subst (Each IsStub) (sym (stubs_are ∙ ap (λ k. arm_stub (record { key = k; child = page }) ∷ []) key_is))
+        slots_are = slots_are ∙ ap (λ k. pivot_slot (record { key = k; child = page }) ∷ []) key_is;
+        small = subst (Each IsSlot) (sym (slots_are ∙ ap (λ k. pivot_slot (record { key = k; child = page }) ∷ []) key_is))
             (record { size = (let one = whole.each.0.size in omega arith); load = range }, tt);
-        spread = (((whole, spread_up zero low high (x ∷ xs) (pair_stub x) (map pair_stub xs) refl lies), tt), (tt, tt), (lies.1.0, tt));
+        spread = (((whole, spread_up zero low high (x ∷ xs) (pair_slot x) (map pair_slot xs) refl lies), tt), (tt, tt), (lies.1.0, tt));
         shown = ((subst (λ zs. IsAt new page (leaf zs)) same m.at, shows_kept old new m.frame zero (x ∷ xs) shown), tt);
         entries_are = ap (map entry_of) (append-nil (x ∷ xs));
         pages_are = λ n. ap (λ zs. times n (page ∷ zs)) (append-nil (pages_of zero (x ∷ xs)));
@@ -280,22 +280,22 @@ leaf_written old new base rank page low key high items (x ∷ xs) stubs is same 
     }
 
 -- where it was written, one page was made
-pub one_few : (old new : Store) (rank page : ℕ) (key : List ℕ) (items : List Item) (stubs : List Stub) → IsLeaf items → IsMade old new page (leaf items)
+pub one_few : (old new : Store) (rank page : ℕ) (key : List ℕ) (items : List Item) (slots : List Slot) → IsLeaf items → IsMade old new page (leaf items)
     → key ≡ (get_or items 0 (none key)).key → page < 2 ^ 32
-    → stubs ≡ arm_stub (record { key = key; child = page }) ∷ [] → IsFew old new (rank + 1) 1360 1 (record { rank = rank + 1; stubs = stubs })
-one_few old new rank page key [] stubs sound m first range stubs_are = absurd (omega (arith, sound.some))
-one_few old new rank page key (x ∷ xs) stubs sound m first range stubs_are =
+    → slots ≡ pivot_slot (record { key = key; child = page }) ∷ [] → IsFew old new (rank + 1) 1360 1 (record { rank = rank + 1; slots = slots })
+one_few old new rank page key [] slots sound m first range slots_are = absurd (omega (arith, sound.some))
+one_few old new rank page key (x ∷ xs) slots sound m first range slots_are =
     let little : 6 + length key ≤ 1360 = (let one = sound.each.0.size in omega (arith, ap length first)) in
     record {
       rank_is = refl;
-      small = subst (Each IsStub) (sym stubs_are) (record { size = omega arith; load = range }, tt);
-      size = omega (arith, ap stubs_size stubs_are, little);
+      small = subst (Each IsSlot) (sym slots_are) (record { size = omega arith; load = range }, tt);
+      size = omega (arith, ap slots_size slots_are, little);
       made = omega (arith, ap length m.made);
     }
 
 -- what was edited and then written, or taken apart
 pub edited_turns : (old mid new : Store) (base : ℕ) (low : List ℕ) (high : Option (List ℕ)) (edits : List Edit) (pairs : List Pair) (items : List Item)
-    (r : Result Loose TreeFault) → Frame old mid → (h : IsEdited old mid edits pairs items)
+    (r : Result LooseNode TreeFault) → Frame old mid → (h : IsEdited old mid edits pairs items)
     → IsTurn mid new base low high (map entry_of h.pairs) (pages_of zero h.pairs) r
     → IsTurn old new base low high (change edits (map entry_of pairs)) (pages_of zero pairs) r
 edited_turns old mid new base low high edits pairs items r grows h u =

@@ -2,8 +2,8 @@
 use Rattle.std.proofs.Common.{◌≡◌, ℕ, zero, suc, ◌+◌, List, [], ◌∷◌, ◌++◌, map, take, drop, Option, Some, refl, sym, ap, ◌∙◌, subst}
 use Rattle.btree.specs.Keys.{Each, Rises, IsUnder, IsBetween, entry_of, times}
 use Rattle.btree.specs.Store.{Store}
-use Rattle.btree.specs.Loose.{IsSpread, Stub, bare, first_or, pair_stub, twig_stub, stubs_of}
-use Rattle.btree.specs.Tree.{Twig, Body, IsSound, IsWhole, Shows, entries_of, high_of, pages_of, pair_keys, pairs_of, twig_keys}
+use Rattle.btree.specs.Loose.{IsSpread, Slot, bare, first_or, pair_slot, subtree_slot, slots_of}
+use Rattle.btree.specs.Tree.{Subtree, Body, IsSound, IsWhole, Shows, entries_of, high_of, pages_of, pair_keys, pairs_of, subtree_keys}
 use Rattle.btree.proofs.KeyLemmas.{under_trans, not_under_itself, not_both, within_wider}
 use Rattle.btree.proofs.ListLemmas.{each_append, each_back, each_front, each_map, flat_append, map_append, rises_append, rises_back, rises_front, times_append}
 use Rattle.btree.proofs.FanLemmas.{fan_append, fan_back, fan_front}
@@ -20,9 +20,9 @@ abbrev pub none_of : (d : ℕ) → Body d
 none_of zero = []
 none_of (suc d) = []
 
-pub stubs_joined : (d : ℕ) (a b : Body d) → stubs_of d (joined d a b) ≡ stubs_of d a ++ stubs_of d b
-stubs_joined zero a b = map_append pair_stub a b
-stubs_joined (suc d) a b = map_append twig_stub a b
+pub slots_joined : (d : ℕ) (a b : Body d) → slots_of d (joined d a b) ≡ slots_of d a ++ slots_of d b
+slots_joined zero a b = map_append pair_slot a b
+slots_joined (suc d) a b = map_append subtree_slot a b
 
 pub pairs_joined : (d : ℕ) (a b : Body d) → pairs_of d (joined d a b) ≡ pairs_of d a ++ pairs_of d b
 pairs_joined zero a b = refl
@@ -45,7 +45,7 @@ shows_parts s (suc d) a b h = (each_front _ a b h, each_back _ a b h)
 
 -- ---- order
 
-high_is : {B : Type 0} (high : Option (List ℕ)) (ws : List (Twig B)) → first_or high (map twig_stub ws) ≡ high_of high ws
+high_is : {B : Type 0} (high : Option (List ℕ)) (ws : List (Subtree B)) → first_or high (map subtree_slot ws) ≡ high_of high ws
 high_is high [] = refl
 high_is high (w ∷ ws) = refl
 
@@ -63,7 +63,7 @@ keys_glue low high xs k ks rise between rise' between' = (
 )
 
 pub spread_split : (d : ℕ) (low : List ℕ) (high : Option (List ℕ)) (a b : Body d) → IsSpread d low high (joined d a b)
-    → IsSpread d low (first_or high (stubs_of d b)) a × IsSpread d low high b
+    → IsSpread d low (first_or high (slots_of d b)) a × IsSpread d low high b
 spread_split zero low high a [] h = let keys = map_append (λ x. x.key) a [] in
     ((rises_front _ _ (subst Rises keys h.0), each_front _ (pair_keys a) _ (subst (Each (IsBetween low high)) keys h.1)), (tt, tt))
 spread_split zero low high a (y ∷ ys) h =
@@ -73,18 +73,18 @@ spread_split zero low high a (y ∷ ys) h =
     ((rises_front _ _ r, keys_split low high (pair_keys a) y.key (pair_keys ys) r b), (rises_back (pair_keys a) _ r, each_back _ (pair_keys a) _ b))
 spread_split (suc d) low high a [] h =
     let keys = map_append (λ w. w.key) a [] in (
-      (fan_front (Lies d) high a [] h.0, rises_front _ _ (subst Rises keys h.1), each_front _ (twig_keys a) _ (subst (Each (IsBetween low high)) keys h.2)),
+      (fan_front (Lies d) high a [] h.0, rises_front _ _ (subst Rises keys h.1), each_front _ (subtree_keys a) _ (subst (Each (IsBetween low high)) keys h.2)),
       (tt, tt, tt),
     )
 spread_split (suc d) low high a (y ∷ ys) h =
     let keys = map_append (λ w. w.key) a (y ∷ ys) in
     let r = subst Rises keys h.1 in
     let b = subst (Each (IsBetween low high)) keys h.2 in (
-      (fan_front (Lies d) high a (y ∷ ys) h.0, rises_front _ _ r, keys_split low high (twig_keys a) y.key (twig_keys ys) r b),
-      (fan_back (Lies d) high a (y ∷ ys) h.0, rises_back (twig_keys a) _ r, each_back _ (twig_keys a) _ b),
+      (fan_front (Lies d) high a (y ∷ ys) h.0, rises_front _ _ r, keys_split low high (subtree_keys a) y.key (subtree_keys ys) r b),
+      (fan_back (Lies d) high a (y ∷ ys) h.0, rises_back (subtree_keys a) _ r, each_back _ (subtree_keys a) _ b),
     )
 
-pub spread_glue : (d : ℕ) (low : List ℕ) (high : Option (List ℕ)) (a b : Body d) → IsSpread d low (first_or high (stubs_of d b)) a → IsSpread d low high b
+pub spread_glue : (d : ℕ) (low : List ℕ) (high : Option (List ℕ)) (a b : Body d) → IsSpread d low (first_or high (slots_of d b)) a → IsSpread d low high b
     → IsSpread d low high (joined d a b)
 spread_glue zero low high a [] h g =
     let keys = map_append (λ x. x.key) a [] in (
@@ -98,12 +98,12 @@ spread_glue zero low high a (y ∷ ys) h g =
 spread_glue (suc d) low high a [] h g =
     let keys = map_append (λ w. w.key) a [] in (
       fan_append (Lies d) high a [] h.0 tt,
-      subst Rises (sym keys) (rises_append (twig_keys a) [] h.1 tt (each_map _ _ (λ x b. tt) (twig_keys a) h.2)),
-      subst (Each (IsBetween low high)) (sym keys) (each_append _ (twig_keys a) [] h.2 tt),
+      subst Rises (sym keys) (rises_append (subtree_keys a) [] h.1 tt (each_map _ _ (λ x b. tt) (subtree_keys a) h.2)),
+      subst (Each (IsBetween low high)) (sym keys) (each_append _ (subtree_keys a) [] h.2 tt),
     )
 spread_glue (suc d) low high a (y ∷ ys) h g =
     let keys = map_append (λ w. w.key) a (y ∷ ys) in
-    let k = keys_glue low high (twig_keys a) y.key (twig_keys ys) h.1 h.2 g.1 g.2 in
+    let k = keys_glue low high (subtree_keys a) y.key (subtree_keys ys) h.1 h.2 g.1 g.2 in
     (fan_append (Lies d) high a (y ∷ ys) h.0 g.0, subst Rises (sym keys) k.0, subst (Each (IsBetween low high)) (sym keys) k.1)
 
 -- ---- a body cut at a place
@@ -112,8 +112,8 @@ pub record IsSplit (d : ℕ) (body : Body d) (at : ℕ) : Type 0 where
   pub front : Body d
   pub back : Body d
   pub is : body ≡ joined d front back
-  pub front_are : stubs_of d front ≡ take at (stubs_of d body)
-  pub back_are : stubs_of d back ≡ drop at (stubs_of d body)
+  pub front_are : slots_of d front ≡ take at (slots_of d body)
+  pub back_are : slots_of d back ≡ drop at (slots_of d body)
 
 pub take_drop : {X : Type 0} (n : ℕ) (xs : List X) → xs ≡ take n xs ++ drop n xs
 take_drop zero xs = refl
@@ -132,9 +132,9 @@ map_behind f (suc n) (x ∷ xs) = map_behind f n xs
 
 pub split_body : (d : ℕ) (body : Body d) (at : ℕ) → IsSplit d body at
 split_body zero body at = record
-    { front = take at body; back = drop at body; is = take_drop at body; front_are = map_take pair_stub at body; back_are = map_behind pair_stub at body }
+    { front = take at body; back = drop at body; is = take_drop at body; front_are = map_take pair_slot at body; back_are = map_behind pair_slot at body }
 split_body (suc d) body at = record
-    { front = take at body; back = drop at body; is = take_drop at body; front_are = map_take twig_stub at body; back_are = map_behind twig_stub at body }
+    { front = take at body; back = drop at body; is = take_drop at body; front_are = map_take subtree_slot at body; back_are = map_behind subtree_slot at body }
 
 -- ---- as a page has it
 
@@ -154,7 +154,7 @@ bare_shows s (suc d) [] h = h
 bare_shows s (suc d) (w ∷ ws) h = h
 
 -- what is spread, under its first key
-pub bare_sound : (d : ℕ) (low : List ℕ) (high : Option (List ℕ)) (body : Body d) (s : Stub) (ss : List Stub) → stubs_of d body ≡ s ∷ ss
+pub bare_sound : (d : ℕ) (low : List ℕ) (high : Option (List ℕ)) (body : Body d) (s : Slot) (ss : List Slot) → slots_of d body ≡ s ∷ ss
     → IsSpread d low high body → IsSound d s.key high (bare d body)
 bare_sound zero low high [] s ss e h = cc
 bare_sound zero low high (x ∷ xs) s ss e h =
@@ -167,4 +167,4 @@ bare_sound zero low high (x ∷ xs) s ss e h =
 bare_sound (suc d) low high [] s ss e h = cc
 bare_sound (suc d) low high (w ∷ ws) s ss e h =
     let same : w.key ≡ s.key = cc in
-    subst (λ k. IsSound (suc d) k high (bare (suc d) (w ∷ ws))) same (h.0, h.1, each_map _ _ (λ k b. b.1) (twig_keys (w ∷ ws)) h.2)
+    subst (λ k. IsSound (suc d) k high (bare (suc d) (w ∷ ws))) same (h.0, h.1, each_map _ _ (λ k b. b.1) (subtree_keys (w ∷ ws)) h.2)

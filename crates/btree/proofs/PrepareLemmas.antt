@@ -1,20 +1,20 @@
 -- Edits of children: the child that the last edits belong to, what is before it and what is behind it.
 use Rattle.std.proofs.Common.{◌≡◌, ℕ, zero, suc, ◌+◌, ◌-◌, ◌<◌, ◌≤◌, take, get_or, List, [], ◌∷◌, ◌++◌, length, map, Option, Some, None, Result, Ok, Err, refl}
 use Rattle.std.proofs.Common.{sym, ap, ◌∙◌, subst, arith, inl, inr, append_assoc}
-use Rattle.btree.specs.declared.loose.Loose.{Loose}
+use Rattle.btree.specs.declared.node.LooseNode.{LooseNode}
 use Rattle.btree.specs.declared.editing.Edit.{Edit as ProgramEdit}
 use Rattle.btree.specs.EditView.{edit_in}
-use Rattle.btree.specs.LooseView.{hold_in, stub_in}
-use Rattle.btree.specs.declared.loose.Unit.{Unit}
+use Rattle.btree.specs.LooseView.{payload_in, slot_in}
+use Rattle.btree.specs.declared.node.LooseSlot.{LooseSlot}
 use Rattle.btree.proofs.CuttingLemmas.{take_over}
 use Rattle.btree.specs.declared.pages.TreeFault.{TreeFault}
 use Rattle.btree.specs.Change.{BeginsAt, IsBehind, edit_keys}
 use Rattle.btree.specs.Keys.{Edit, Entry, Each, IsBetween, IsNotUnder, IsUnder, IsWithin, Rises, change}
-use Rattle.btree.specs.Loose.{Stub, child, first_or}
+use Rattle.btree.specs.Loose.{Slot, child, first_or}
 use Rattle.btree.specs.Store.{Store, Frame}
 use Rattle.btree.proofs.HeldLemmas.{IsTurn}
 use Rattle.btree.specs.Tree.{entries_of, pages_of}
-use Rattle.btree.specs.Turn.{IsHeld, IsTurned, IsUpTo, Sheaf, sheaf_in}
+use Rattle.btree.specs.Turn.{IsHeld, IsTurned, IsUpTo, NodeModel, model_in}
 use Rattle.btree.proofs.ListLemmas.{each_append, each_back, each_front, each_map, get_here, get_mapped, long_append, long_map, map_append, rises_back}
 use Rattle.btree.proofs.ListLemmas.{rises_front, times_append}
 use Rattle.btree.proofs.EndLemmas.{IsLastOff, last_off, within_up_to}
@@ -26,7 +26,7 @@ use Rattle.btree.proofs.ScanLemmas.{each_entry}
 use Rattle.btree.proofs.FanLemmas.{pairs_between}
 
 pub record IsPrepared (s : Store) (base : ℕ) (low : List ℕ) (high : Option (List ℕ)) (entries : List Entry) (reached : List ℕ) (rank : ℕ)
-    (left right : List Stub) (t : Stub) (page : ℕ) (theirs mine : List Edit) : Type 0 where
+    (left right : List Slot) (t : Slot) (page : ℕ) (theirs mine : List Edit) : Type 0 where
   pub two : IsTwo s base low high entries reached rank (left ++ t ∷ []) right
   pub off : IsLastOff s base low two.between two.front_entries two.front_pages rank left t page
   pub theirs_rise : Rises (edit_keys theirs)
@@ -34,28 +34,30 @@ pub record IsPrepared (s : Store) (base : ℕ) (low : List ℕ) (high : Option (
   pub theirs_between : Each (λ e. IsBetween low (Some t.key) e.key) theirs
   pub mine_between : Each (λ e. IsBetween t.key two.between e.key) mine
   pub within : IsUpTo t.key high
-  pub left_held : IsHeld s base low (Some t.key) (entries_of (suc off.d) off.twigs) (pages_of (suc off.d) off.twigs) (record { rank = rank; stubs = left })
+  pub left_held : IsHeld s base low (Some t.key) (entries_of (suc off.d) off.subtrees) (pages_of (suc off.d) off.subtrees)
+      (record { rank = rank; slots = left })
 
 both : (P Q : List ℕ → Type 0) (es : List Edit) → Each (λ e. P e.key) es → Each (λ e. Q e.key) es → Each (λ e. P e.key × Q e.key) es
 both P Q [] h g = tt
 both P Q (e ∷ es) h g = ((h.0, g.0), both P Q es h.1 g.1)
 
-pub upto_of : (key : List ℕ) (high between : Option (List ℕ)) (s : Store) (base : ℕ) (last : List Entry) (pages : List ℕ) (sheaf : Sheaf) → IsWithin between key
-    → IsBehind s base between high last pages sheaf → IsUpTo key high
-upto_of key high between s base last pages sheaf w (inl e) = subst (IsUpTo key) e.1 (within_up_to key between w)
-upto_of key high between s base last pages sheaf w (inr m) = up_to_trans key m.mid high (subst (IsUpTo key) m.is (within_up_to key between w)) m.within
+pub upto_of : (key : List ℕ) (high between : Option (List ℕ)) (s : Store) (base : ℕ) (last : List Entry) (pages : List ℕ) (model : NodeModel)
+    → IsWithin between key
+    → IsBehind s base between high last pages model → IsUpTo key high
+upto_of key high between s base last pages model w (inl e) = subst (IsUpTo key) e.1 (within_up_to key between w)
+upto_of key high between s base last pages model w (inr m) = up_to_trans key m.mid high (subst (IsUpTo key) m.is (within_up_to key between w)) m.within
 
-pub prepared : (s : Store) (base : ℕ) (low : List ℕ) (high : Option (List ℕ)) (entries : List Entry) (reached : List ℕ) (sheaf : Sheaf)
-    (left right : List Stub) (t : Stub) (page : ℕ) (theirs mine : List Edit)
-    → IsHeld s base low high entries reached sheaf → sheaf.stubs ≡ (left ++ t ∷ []) ++ right → base < sheaf.rank → t.load ≡ child page
+pub prepared : (s : Store) (base : ℕ) (low : List ℕ) (high : Option (List ℕ)) (entries : List Entry) (reached : List ℕ) (model : NodeModel)
+    (left right : List Slot) (t : Slot) (page : ℕ) (theirs mine : List Edit)
+    → IsHeld s base low high entries reached model → model.slots ≡ (left ++ t ∷ []) ++ right → base < model.rank → t.load ≡ child page
     → Rises (edit_keys (theirs ++ mine)) → Each (λ e. IsBetween low high e.key) (theirs ++ mine)
-    → ((f : Stub) (rest : List Stub) → right ≡ f ∷ rest → Each (λ e. IsUnder e.key f.key) mine) → Each (λ e. IsUnder e.key t.key) theirs
+    → ((f : Slot) (rest : List Slot) → right ≡ f ∷ rest → Each (λ e. IsUnder e.key f.key) mine) → Each (λ e. IsUnder e.key t.key) theirs
     → Each (λ e. IsNotUnder e.key t.key) mine
-    → IsPrepared s base low high entries reached sheaf.rank left right t page theirs mine
-prepared s base low high entries reached sheaf left right t page theirs mine h parts deep load rise between next before behind =
-    let two = two_parts s base low high entries reached sheaf (left ++ t ∷ []) right h parts (omega (arith, long_append left (t ∷ []))) in
+    → IsPrepared s base low high entries reached model.rank left right t page theirs mine
+prepared s base low high entries reached model left right t page theirs mine h parts deep load rise between next before behind =
+    let two = two_parts s base low high entries reached model (left ++ t ∷ []) right h parts (omega (arith, long_append left (t ∷ []))) in
     let off = last_off s base low two.between two.front_entries two.front_pages
-    (record { rank = sheaf.rank; stubs = left ++ t ∷ [] }) left t page two.front_held refl deep (omega (arith, long_append left (t ∷ []))) load in
+    (record { rank = model.rank; slots = left ++ t ∷ [] }) left t page two.front_held refl deep (omega (arith, long_append left (t ∷ []))) load in
     let keys : Rises (edit_keys theirs ++ edit_keys mine) = subst Rises (map_append (λ (e : Edit). e.key) theirs mine) rise in
     record {
       two = two;
@@ -71,9 +73,9 @@ prepared s base low high entries reached sheaf left right t page theirs mine h p
       within = upto_of t.key high two.between s base two.back_entries two.back_pages _ off.between.1 two.behind;
       left_held = record {
         d = suc off.d;
-        body = off.twigs;
+        body = off.subtrees;
         rank_is = λ lt. off.rank_is;
-        stubs_are = off.front_are;
+        slots_are = off.front_are;
         small = off.front_small;
         spread = off.spread;
         shown = off.front_shown;
@@ -82,42 +84,42 @@ prepared s base low high entries reached sheaf left right t page theirs mine h p
       };
     }
   where
-    under : (right : List Stub) (b : Option (List ℕ)) → b ≡ first_or high right
-        → ((f : Stub) (rest : List Stub) → right ≡ f ∷ rest → Each (λ e. IsUnder e.key f.key) mine) → Each (λ e. IsBetween low high e.key) mine
+    under : (right : List Slot) (b : Option (List ℕ)) → b ≡ first_or high right
+        → ((f : Slot) (rest : List Slot) → right ≡ f ∷ rest → Each (λ e. IsUnder e.key f.key) mine) → Each (λ e. IsBetween low high e.key) mine
         → Each (λ e. IsWithin b e.key) mine
     under [] b is next among = subst (λ x. Each (λ e. IsWithin x e.key) mine) (sym is) (each_map _ _ (λ e b. b.1) mine among)
     under (f ∷ rest) b is next among = subst (λ x. Each (λ e. IsWithin x e.key) mine) (sym is) (next f rest refl)
 
 -- what is behind is past the bound
-behind_past : (s : Store) (base : ℕ) (between high : Option (List ℕ)) (last : List Entry) (pages : List ℕ) (sheaf : Sheaf) (mine : List Edit)
-    → IsBehind s base between high last pages sheaf
+behind_past : (s : Store) (base : ℕ) (between high : Option (List ℕ)) (last : List Entry) (pages : List ℕ) (model : NodeModel) (mine : List Edit)
+    → IsBehind s base between high last pages model
     → Each (λ e. IsWithin between e.key) mine → Each (λ e. Each (λ (y : Entry). IsUnder e.key y.key) last) mine
-behind_past s base between high last pages sheaf mine (inl e) w =
+behind_past s base between high last pages model mine (inl e) w =
     subst (λ es. Each (λ f. Each (λ (y : Entry). IsUnder f.key y.key) es) mine) (sym e.2) (nothing mine)
   where
     nothing : (fs : List Edit) → Each (λ f. Each (λ (y : Entry). IsUnder f.key y.key) []) fs
     nothing [] = tt
     nothing (f ∷ fs) = (tt, nothing fs)
-behind_past s base between high last pages sheaf mine (inr m) w =
+behind_past s base between high last pages model mine (inr m) w =
     apart (λ (y : Entry). y.key) m.mid mine last (subst (λ b. Each (λ e. IsWithin b e.key) mine) m.is w)
-    (each_map _ _ (λ y b. b.0) last (held_between s base m.mid high last pages sheaf m.held))
+    (each_map _ _ (λ y b. b.0) last (held_between s base m.mid high last pages model m.held))
 
-behind_over : (s : Store) (base : ℕ) (key : List ℕ) (between high : Option (List ℕ)) (last : List Entry) (pages : List ℕ) (sheaf : Sheaf)
-    → IsBehind s base between high last pages sheaf → IsUpTo key between
+behind_over : (s : Store) (base : ℕ) (key : List ℕ) (between high : Option (List ℕ)) (last : List Entry) (pages : List ℕ) (model : NodeModel)
+    → IsBehind s base between high last pages model → IsUpTo key between
     → Each (λ (y : Entry). IsNotUnder y.key key) last
-behind_over s base key between high last pages sheaf (inl e) u = subst (Each (λ (y : Entry). IsNotUnder y.key key)) (sym e.2) tt
-behind_over s base key between high last pages sheaf (inr m) u =
-    each_map _ _ (λ y b. not_under_trans key m.mid y.key (subst (IsUpTo key) m.is u) b.0) last (held_between s base m.mid high last pages sheaf m.held)
+behind_over s base key between high last pages model (inl e) u = subst (Each (λ (y : Entry). IsNotUnder y.key key)) (sym e.2) tt
+behind_over s base key between high last pages model (inr m) u =
+    each_map _ _ (λ y b. not_under_trans key m.mid y.key (subst (IsUpTo key) m.is u) b.0) last (held_between s base m.mid high last pages model m.held)
 
 -- the map after all edits
 pub prepared_entries : (s front_store : Store) (base : ℕ) (low : List ℕ) (high : Option (List ℕ)) (entries : List Entry) (reached : List ℕ) (rank : ℕ)
-    (left right : List Stub) (t : Stub) (page : ℕ) (theirs mine : List Edit)
-    (p : IsPrepared s base low high entries reached rank left right t page theirs mine) (pages : List ℕ) (front : Sheaf)
-    → IsHeld front_store base low (Some t.key) (change theirs (entries_of (suc p.off.d) p.off.twigs)) pages front
-    → change theirs (entries_of (suc p.off.d) p.off.twigs)
+    (left right : List Slot) (t : Slot) (page : ℕ) (theirs mine : List Edit)
+    (p : IsPrepared s base low high entries reached rank left right t page theirs mine) (pages : List ℕ) (front : NodeModel)
+    → IsHeld front_store base low (Some t.key) (change theirs (entries_of (suc p.off.d) p.off.subtrees)) pages front
+    → change theirs (entries_of (suc p.off.d) p.off.subtrees)
     ++ (change mine (entries_of p.off.d p.off.body) ++ p.two.back_entries) ≡ change (theirs ++ mine) entries
 prepared_entries s front_store base low high entries reached rank left right t page theirs mine p pages front h =
-    let el : List Entry = entries_of (suc p.off.d) p.off.twigs in
+    let el : List Entry = entries_of (suc p.off.d) p.off.subtrees in
     let ew : List Entry = entries_of p.off.d p.off.body in
     let er : List Entry = p.two.back_entries in
     let inside : Each (λ (y : Entry). IsBetween t.key p.two.between y.key) ew =
@@ -135,15 +137,15 @@ prepared_entries s front_store base low high entries reached rank left right t p
 
 -- ---- the program's parts
 
-pub place_next : (key : List ℕ) (stubs left right : List Stub) (t : Stub) (at n : ℕ) → n ≡ length stubs → stubs ≡ (left ++ t ∷ []) ++ right → length left ≡ at
-    → ((s : Stub) → at + 1 < n → IsUnder key (get_or stubs (at + 1) s).key)
-    → (f : Stub) (rest : List Stub) → right ≡ f ∷ rest → IsUnder key f.key
-place_next key stubs left right t at n same e long next f rest is =
-    let whole : stubs ≡ (left ++ t ∷ []) ++ f ∷ rest = e ∙ ap (λ r. (left ++ t ∷ []) ++ r) is in
+pub place_next : (key : List ℕ) (slots left right : List Slot) (t : Slot) (at n : ℕ) → n ≡ length slots → slots ≡ (left ++ t ∷ []) ++ right → length left ≡ at
+    → ((s : Slot) → at + 1 < n → IsUnder key (get_or slots (at + 1) s).key)
+    → (f : Slot) (rest : List Slot) → right ≡ f ∷ rest → IsUnder key f.key
+place_next key slots left right t at n same e long next f rest is =
+    let whole : slots ≡ (left ++ t ∷ []) ++ f ∷ rest = e ∙ ap (λ r. (left ++ t ∷ []) ++ r) is in
     let front : length (left ++ t ∷ []) ≡ at + 1 = omega (arith, long_append left (t ∷ [])) in
-    let here : get_or stubs (at + 1) f ≡ f =
+    let here : get_or slots (at + 1) f ≡ f =
     ap (λ ss. get_or ss (at + 1) f) whole ∙ ap (λ k. get_or ((left ++ t ∷ []) ++ f ∷ rest) k f) (sym front) ∙ get_here (left ++ t ∷ []) f rest f in
-    subst (λ (s : Stub). IsUnder key s.key) here (next f (omega (arith, ap length whole, long_append (left ++ t ∷ []) (f ∷ rest))))
+    subst (λ (s : Slot). IsUnder key s.key) here (next f (omega (arith, ap length whole, long_append (left ++ t ∷ []) (f ∷ rest))))
 
 pub all_up_to_last : (es : List ProgramEdit) (key : List ℕ) (d : ProgramEdit) → 0 < length es → Rises (edit_keys (map edit_in es))
     → IsUnder (get_or es (length es - 1) d).key.now key → Each (λ (e : Edit). IsUnder e.key key) (map edit_in es)
@@ -154,18 +156,20 @@ all_up_to_last es key d some rise last =
     subst (λ (e : Edit). IsUnder e.key key) (sym (ap (λ i. get_or (map edit_in es) i f) same ∙ get_mapped edit_in es (length es - 1) f d (omega arith))) last))
 
 pub children_done : (old a b new : Store) (base : ℕ) (low : List ℕ) (high : Option (List ℕ)) (entries : List Entry) (reached : List ℕ) (rank : ℕ)
-    (left right : List Stub) (t : Stub) (page : ℕ) (theirs mine : List Edit)
-    (p : IsPrepared old base low high entries reached rank left right t page theirs mine) (below front : Sheaf) (r : Result Loose TreeFault) → Frame old a
+    (left right : List Slot) (t : Slot) (page : ℕ) (theirs mine : List Edit)
+    (p : IsPrepared old base low high entries reached rank left right t page theirs mine) (below front : NodeModel) (r : Result LooseNode TreeFault)
+    → Frame old a
     → Frame a b
     → (u1 : IsTurned old a base t.key p.two.between (change mine (entries_of p.off.d p.off.body)) (page ∷ pages_of p.off.d p.off.body) below)
-    → (u2 : IsTurned a b base low (Some t.key) (change theirs (entries_of (suc p.off.d) p.off.twigs)) (pages_of (suc p.off.d) p.off.twigs) front)
-    → IsTurn b new base low high (change theirs (entries_of (suc p.off.d) p.off.twigs) ++ (change mine (entries_of p.off.d p.off.body) ++ p.two.back_entries))
+    → (u2 : IsTurned a b base low (Some t.key) (change theirs (entries_of (suc p.off.d) p.off.subtrees)) (pages_of (suc p.off.d) p.off.subtrees) front)
+    → IsTurn b new base low high (change theirs (entries_of (suc p.off.d) p.off.subtrees)
+    ++ (change mine (entries_of p.off.d p.off.body) ++ p.two.back_entries))
     (u2.after ++ (u1.after ++ p.two.back_pages)) r
     → IsTurn old new base low high (change (theirs ++ mine) entries) reached r
 children_done old a b new base low high entries reached rank left right t page theirs mine p below front (Ok l) g1 g2 u1 u2 u3 =
     record {
       after = u3.after;
-      held = subst (λ es. IsHeld new base low high es u3.after (sheaf_in l))
+      held = subst (λ es. IsHeld new base low high es u3.after (model_in l))
           (prepared_entries old b base low high entries reached rank left right t page theirs mine p u2.after front u2.held) u3.held;
       turned = λ n. omega (
         arith,
@@ -181,53 +185,59 @@ children_done old a b new base low high entries reached rank left right t page t
 children_done old a b new base low high entries reached rank left right t page theirs mine p below front (Err e) g1 g2 u1 u2 u3 =
     cause_later old b new e (frame_trans old a b g1 g2) u3
 
-pub begins_left : (low : List ℕ) (edits theirs : List Edit) (stubs left right : List Stub) (t : Stub) → stubs ≡ (left ++ t ∷ []) ++ right
-    → BeginsAt low edits stubs → 0 < length edits
+pub begins_left : (low : List ℕ) (edits theirs : List Edit) (slots left right : List Slot) (t : Slot) → slots ≡ (left ++ t ∷ []) ++ right
+    → BeginsAt low edits slots → 0 < length edits
     → Each (λ e. IsBetween low (Some t.key) e.key) theirs → BeginsAt low theirs left
-begins_left low edits theirs stubs left right t e (inl none) some h = absurd (omega arith)
-begins_left low edits [] stubs [] right t e (inr f) some h = inl refl
-begins_left low edits (x ∷ xs) stubs [] right t e (inr f) some h =
+begins_left low edits theirs slots left right t e (inl none) some h = absurd (omega arith)
+begins_left low edits [] slots [] right t e (inr f) some h = inl refl
+begins_left low edits (x ∷ xs) slots [] right t e (inr f) some h =
     let first : Some t.key ≡ Some low = sym (ap (first_or None) e) ∙ f in
     let same : t.key ≡ low = cc in absurd (h.0.0 (subst (IsUnder x.key) same h.0.1))
-begins_left low edits theirs stubs (s ∷ left) right t e (inr f) some h = inr (sym (ap (first_or None) e) ∙ f)
+begins_left low edits theirs slots (s ∷ left) right t e (inr f) some h = inr (sym (ap (first_or None) e) ∙ f)
 
-module _ (old : Store) (loose left right : Loose) (unit : Unit) (units : List Unit) (key : List ℕ) (page at : ℕ) (es theirs mine : List ProgramEdit)
+module _ (old : Store) (node left right : LooseNode) (loose_slot : LooseSlot) (loose_slots : List LooseSlot) (key : List ℕ) (page at : ℕ)
+    (es theirs mine : List ProgramEdit)
     (d : ProgramEdit)
-    (parts : map stub_in loose.units.items ≡ (map stub_in left.units.items ++ stub_in unit ∷ []) ++ map stub_in right.units.items)
-    (key_is : key ≡ unit.key.items) (load : hold_in unit.hold ≡ child page)
+    (parts : map slot_in node.loose_slots.items ≡ (map slot_in left.loose_slots.items ++ slot_in loose_slot ∷ []) ++ map slot_in right.loose_slots.items)
+    (key_is : key ≡ loose_slot.key.items) (load : payload_in loose_slot.payload ≡ child page)
     (edits_are : map edit_in es ≡ map edit_in theirs ++ map edit_in mine) (before : Rises (edit_keys (map edit_in es))
     → Each (λ (e : Edit). IsUnder e.key key) (map edit_in theirs))
-    (behind : Each (λ (e : Edit). IsNotUnder e.key key) (map edit_in mine)) (units_are : units ≡ loose.units.items) (long : length left.units.items ≡ at)
-    (next : (s : Stub) → at + 1 < length units → IsUnder (get_or es (length es - 1) d).key.now (get_or (map stub_in units) (at + 1) s).key)
+    (behind : Each (λ (e : Edit). IsNotUnder e.key key) (map edit_in mine)) (loose_slots_are : loose_slots ≡ node.loose_slots.items)
+    (long : length left.loose_slots.items ≡ at)
+    (next : (s : Slot) → at + 1 < length loose_slots → IsUnder (get_or es (length es - 1) d).key.now (get_or (map slot_in loose_slots) (at + 1) s).key)
     (some : 0 < length es) where
-  parts_are : map stub_in loose.units.items ≡ (map stub_in left.units.items ++ record { key = key; load = hold_in unit.hold } ∷ [])
-      ++ map stub_in right.units.items
+  parts_are : map slot_in node.loose_slots.items ≡ (map slot_in left.loose_slots.items ++ record { key = key; load = payload_in loose_slot.payload } ∷ [])
+      ++ map slot_in right.loose_slots.items
   parts_are = parts
-      ∙ ap (λ k. (map stub_in left.units.items ++ record { key = k; load = hold_in unit.hold } ∷ []) ++ map stub_in right.units.items) (sym key_is)
+      ∙ ap (λ k. (map slot_in left.loose_slots.items ++ record { key = k; load = payload_in loose_slot.payload } ∷ []) ++ map slot_in right.loose_slots.items)
+      (sym key_is)
 
   pub prepare : (base : ℕ) (low : List ℕ) (high : Option (List ℕ)) (entries : List Entry) (reached : List ℕ)
-      → IsHeld old base low high entries reached (sheaf_in loose) → base < loose.rank → Rises (edit_keys (map edit_in es))
+      → IsHeld old base low high entries reached (model_in node) → base < node.rank → Rises (edit_keys (map edit_in es))
       → Each (λ e. IsBetween low high e.key) (map edit_in es)
-      → IsPrepared old base low high entries reached loose.rank (map stub_in left.units.items) (map stub_in right.units.items)
-      (record { key = key; load = hold_in unit.hold }) page (map edit_in theirs) (map edit_in mine)
+      → IsPrepared old base low high entries reached node.rank (map slot_in left.loose_slots.items) (map slot_in right.loose_slots.items)
+      (record { key = key; load = payload_in loose_slot.payload }) page (map edit_in theirs) (map edit_in mine)
   prepare base low high entries reached h deep rise between =
-      prepared old base low high entries reached (sheaf_in loose) (map stub_in left.units.items) (map stub_in right.units.items)
-      (record { key = key; load = hold_in unit.hold }) page (map edit_in theirs) (map edit_in mine) h parts_are deep load
+      prepared old base low high entries reached (model_in node) (map slot_in left.loose_slots.items) (map slot_in right.loose_slots.items)
+      (record { key = key; load = payload_in loose_slot.payload }) page (map edit_in theirs) (map edit_in mine) h parts_are deep load
       (subst (λ fs. Rises (edit_keys fs)) edits_are rise) (subst (Each (λ e. IsBetween low high e.key)) edits_are between)
       (λ f rest is. each_back (λ e. IsUnder e.key f.key) (map edit_in theirs) (map edit_in mine) (subst (Each (λ e. IsUnder e.key f.key)) edits_are
       (all_up_to_last es f.key d some rise
-      (place_next (get_or es (length es - 1) d).key.now (map stub_in loose.units.items) (map stub_in left.units.items) (map stub_in right.units.items)
-      (record { key = key; load = hold_in unit.hold }) at (length units)
-      (omega (arith, ap length units_are, long_map stub_in loose.units.items)) parts_are (omega (arith, long, long_map stub_in left.units.items))
-      (λ s lt. subst (λ us. IsUnder (get_or es (length es - 1) d).key.now (get_or (map stub_in us) (at + 1) s).key) units_are (next s lt)) f rest is))))
+      (place_next (get_or es (length es - 1) d).key.now (map slot_in node.loose_slots.items) (map slot_in left.loose_slots.items)
+      (map slot_in right.loose_slots.items)
+      (record { key = key; load = payload_in loose_slot.payload }) at (length loose_slots)
+      (omega (arith, ap length loose_slots_are, long_map slot_in node.loose_slots.items)) parts_are
+      (omega (arith, long, long_map slot_in left.loose_slots.items))
+      (λ s lt. subst (λ us. IsUnder (get_or es (length es - 1) d).key.now (get_or (map slot_in us) (at + 1) s).key) loose_slots_are (next s lt)) f rest is))))
       (before rise) behind
 
-  pub begins_there : (base : ℕ) (low : List ℕ) → BeginsAt low (map edit_in es) (map stub_in loose.units.items)
+  pub begins_there : (base : ℕ) (low : List ℕ) → BeginsAt low (map edit_in es) (map slot_in node.loose_slots.items)
       → Each (λ e. IsBetween low (Some key) e.key) (map edit_in theirs)
-      → BeginsAt low (map edit_in theirs) (map stub_in left.units.items)
+      → BeginsAt low (map edit_in theirs) (map slot_in left.loose_slots.items)
   begins_there base low b h =
-      begins_left low (map edit_in es) (map edit_in theirs) (map stub_in loose.units.items) (map stub_in left.units.items) (map stub_in right.units.items)
-      (record { key = key; load = hold_in unit.hold }) parts_are b (omega (arith, long_map edit_in es)) h
+      begins_left low (map edit_in es) (map edit_in theirs) (map slot_in node.loose_slots.items) (map slot_in left.loose_slots.items)
+      (map slot_in right.loose_slots.items)
+      (record { key = key; load = payload_in loose_slot.payload }) parts_are b (omega (arith, long_map edit_in es)) h
 
 pub before_under : (es : List ProgramEdit) (r : ℕ) (key : List ℕ) → r ≤ length es → Rises (edit_keys (map edit_in es))
     → ((k : ℕ) (d : ProgramEdit) → k + 1 ≡ r → IsUnder (get_or es k d).key.now key)

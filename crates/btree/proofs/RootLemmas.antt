@@ -5,16 +5,16 @@ use Rattle.std.specs.List.{flat_map}
 use Rattle.std.specs.Result.{IsErrAnd, MatchResult}
 use Rattle.std.proofs.Math.Pow.{pow_mono}
 use Rattle.std.proofs.lemmas.List.{length-append}
-use Rattle.page.specs.Content.{Arm, branch}
+use Rattle.page.specs.Content.{Pivot, branch}
 use Rattle.btree.specs.Calls.{IsAnswer, IsPart}
 use Rattle.btree.specs.Change.{IsChanged, IsTooHigh}
 use Rattle.btree.specs.Keys.{Each, Edit, Entry, IsBetween, change, entry_of, times}
-use Rattle.btree.specs.Loose.{IsChild, IsSpread, Stub, child, pair_stub, stubs_of, twig_stub}
+use Rattle.btree.specs.Loose.{IsChild, IsSpread, Slot, child, pair_slot, slots_of, subtree_slot}
 use Rattle.btree.specs.Reach.{HasMap}
 use Rattle.btree.specs.Store.{Frame, HasCause, IsSame, Store}
-use Rattle.btree.specs.Tree.{Body, IsFan, IsSound, IsWhole, Shows, Twig, arm_of, content_of, entries_of, high_of, item_of, pages_of, pairs_of}
-use Rattle.btree.specs.Turn.{AreTurned, IsHeld, IsReady, IsTurned, Sheaf, sheaf_in}
-use Rattle.btree.specs.declared.loose.Loose.{Loose}
+use Rattle.btree.specs.Tree.{Body, IsFan, IsSound, IsWhole, Shows, Subtree, pivot_of, content_of, entries_of, high_of, item_of, pages_of, pairs_of}
+use Rattle.btree.specs.Turn.{AreTurned, IsHeld, IsReady, IsTurned, NodeModel, model_in}
+use Rattle.btree.specs.declared.node.LooseNode.{LooseNode}
 use Rattle.btree.specs.declared.pages.TreeFault.{TreeFault}
 use Rattle.btree.specs.declared.pages.TreeFault.TheVariants.{Full}
 use Rattle.btree.proofs.GetLemmas.{root_between}
@@ -30,17 +30,17 @@ long_both : {X : Type 0} (xs ys : List X) (m n : ℕ) → m ≤ length xs → n 
 long_both xs ys m n a b = omega (arith, a, b, length-append xs ys)
 
 -- of two children each has so many pairs
-fan_two : (d n : ℕ) (high : Option (List ℕ)) (w v : Twig (Body d)) (vs : List (Twig (Body d)))
+fan_two : (d n : ℕ) (high : Option (List ℕ)) (w v : Subtree (Body d)) (vs : List (Subtree (Body d)))
     → ((low : List ℕ) (to : Option (List ℕ)) (b : Body d) → Lies d low to b → n ≤ length (pairs_of d b))
     → IsFan (Lies d) high (w ∷ v ∷ vs) → n + n ≤ length (pairs_of (suc d) (w ∷ v ∷ vs))
 fan_two d n high w v vs many h =
-    long_both (pairs_of d w.body) (pairs_of d v.body ++ flat_map (λ (t : Twig (Body d)). pairs_of d t.body) vs) n n (many _ _ w.body h.0)
-    (omega (arith, many _ _ v.body h.1.0, length-append (pairs_of d v.body) (flat_map (λ (t : Twig (Body d)). pairs_of d t.body) vs)))
+    long_both (pairs_of d w.body) (pairs_of d v.body ++ flat_map (λ (t : Subtree (Body d)). pairs_of d t.body) vs) n n (many _ _ w.body h.0)
+    (omega (arith, many _ _ v.body h.1.0, length-append (pairs_of d v.body) (flat_map (λ (t : Subtree (Body d)). pairs_of d t.body) vs)))
 
-fan_one : (d n : ℕ) (high : Option (List ℕ)) (w : Twig (Body d)) (ws : List (Twig (Body d)))
+fan_one : (d n : ℕ) (high : Option (List ℕ)) (w : Subtree (Body d)) (ws : List (Subtree (Body d)))
     → ((low : List ℕ) (to : Option (List ℕ)) (b : Body d) → Lies d low to b → n ≤ length (pairs_of d b))
     → IsFan (Lies d) high (w ∷ ws) → n ≤ length (pairs_of (suc d) (w ∷ ws))
-fan_one d n high w ws many h = omega (arith, many _ _ w.body h.0, length-append (pairs_of d w.body) (flat_map (λ (t : Twig (Body d)). pairs_of d t.body) ws))
+fan_one d n high w ws many h = omega (arith, many _ _ w.body h.0, length-append (pairs_of d w.body) (flat_map (λ (t : Subtree (Body d)). pairs_of d t.body) ws))
 
 whole_many : (d : ℕ) (low : List ℕ) (high : Option (List ℕ)) (body : Body d) → IsWhole d body → IsSound d low high body → 2 ^ d ≤ length (pairs_of d body)
 whole_many zero low high pairs h s = omega (arith, h.some, long_map item_of pairs)
@@ -49,8 +49,8 @@ whole_many (suc d) low high (w ∷ []) h s = let two : 2 ≤ 1 = h.some in absur
 whole_many (suc d) low high (w ∷ v ∷ vs) h s =
     omega (arith, fan_two d (2 ^ d) high (record { key = low; page = w.page; body = w.body }) v vs (λ from to b l. whole_many d from to b l.0 l.1) s.0)
 
-held_many : (d : ℕ) (low : List ℕ) (high : Option (List ℕ)) (twigs : Body (suc d)) → IsSpread (suc d) low high twigs
-    → ((32 ≤ d) × (0 < length twigs)) ⊎ ((31 ≤ d) × (2 ≤ length twigs)) → 4294967296 ≤ length (pairs_of (suc d) twigs)
+held_many : (d : ℕ) (low : List ℕ) (high : Option (List ℕ)) (subtrees : Body (suc d)) → IsSpread (suc d) low high subtrees
+    → ((32 ≤ d) × (0 < length subtrees)) ⊎ ((31 ≤ d) × (2 ≤ length subtrees)) → 4294967296 ≤ length (pairs_of (suc d) subtrees)
 held_many d low high [] s (inl e) = absurd (omega (arith, e.1))
 held_many d low high [] s (inr e) = absurd (omega (arith, e.1))
 held_many d low high (w ∷ []) s (inr e) = absurd (omega (arith, e.1))
@@ -60,23 +60,23 @@ held_many d low high (w ∷ v ∷ vs) s (inr e) =
     let large : 2147483648 ≤ 2 ^ d = pow_mono e.0 in omega (arith, large, fan_two d (2 ^ d) high w v vs (λ from to b l. whole_many d from to b l.0 l.1) s.0)
 
 -- what stands too high has too many entries for 32 levels
-too_many : (d rank : ℕ) (low : List ℕ) (high : Option (List ℕ)) (body : Body d) (stubs : List Stub) → rank ≡ d → stubs ≡ stubs_of d body
+too_many : (d rank : ℕ) (low : List ℕ) (high : Option (List ℕ)) (body : Body d) (slots : List Slot) → rank ≡ d → slots ≡ slots_of d body
     → IsSpread d low high body
-    → ((32 < rank) × (0 < length stubs)) ⊎ ((rank ≡ 32) × (2 ≤ length stubs)) → 4294967296 ≤ length (pairs_of d body)
-too_many zero rank low high body stubs e is spread (inl w) = absurd (omega (arith, w.0))
-too_many zero rank low high body stubs e is spread (inr w) = absurd (omega (arith, w.0))
-too_many (suc d) rank low high twigs stubs e is spread (inl w) =
-    held_many d low high twigs spread (inl (omega (arith, w.0), omega (arith, w.1, ap length is, long_map twig_stub twigs)))
-too_many (suc d) rank low high twigs stubs e is spread (inr w) =
-    held_many d low high twigs spread (inr (omega (arith, w.0), omega (arith, w.1, ap length is, long_map twig_stub twigs)))
+    → ((32 < rank) × (0 < length slots)) ⊎ ((rank ≡ 32) × (2 ≤ length slots)) → 4294967296 ≤ length (pairs_of d body)
+too_many zero rank low high body slots e is spread (inl w) = absurd (omega (arith, w.0))
+too_many zero rank low high body slots e is spread (inr w) = absurd (omega (arith, w.0))
+too_many (suc d) rank low high subtrees slots e is spread (inl w) =
+    held_many d low high subtrees spread (inl (omega (arith, w.0), omega (arith, w.1, ap length is, long_map subtree_slot subtrees)))
+too_many (suc d) rank low high subtrees slots e is spread (inr w) =
+    held_many d low high subtrees spread (inr (omega (arith, w.0), omega (arith, w.1, ap length is, long_map subtree_slot subtrees)))
 
-pub too_high : (s : Store) (low : List ℕ) (high : Option (List ℕ)) (entries : List Entry) (reached : List ℕ) (sheaf : Sheaf)
-    → IsHeld s 0 low high entries reached sheaf
-    → ((32 < sheaf.rank) × (0 < length sheaf.stubs)) ⊎ ((sheaf.rank ≡ 32) × (2 ≤ length sheaf.stubs)) → IsTooHigh entries Full
-too_high s low high entries reached sheaf h why =
-    let some : 0 < length sheaf.stubs = elim why [ inl w ↦ w.1 | inr w ↦ omega (arith, w.1) ] in
+pub too_high : (s : Store) (low : List ℕ) (high : Option (List ℕ)) (entries : List Entry) (reached : List ℕ) (model : NodeModel)
+    → IsHeld s 0 low high entries reached model
+    → ((32 < model.rank) × (0 < length model.slots)) ⊎ ((model.rank ≡ 32) × (2 ≤ length model.slots)) → IsTooHigh entries Full
+too_high s low high entries reached model h why =
+    let some : 0 < length model.slots = elim why [ inl w ↦ w.1 | inr w ↦ omega (arith, w.1) ] in
     let many : 4294967296 ≤ length (pairs_of h.d h.body) =
-    too_many h.d sheaf.rank low high h.body sheaf.stubs (omega (arith, h.rank_is some)) h.stubs_are h.spread why in
+    too_many h.d model.rank low high h.body model.slots (omega (arith, h.rank_is some)) h.slots_are h.spread why in
     (refl, omega (arith, many, long_map entry_of (pairs_of h.d h.body), ap length h.entries_are))
 
 -- ---- one child alone
@@ -87,18 +87,18 @@ pub record IsHead (s : Store) (page : ℕ) (entries : List Entry) (reached : Lis
   pub map : HasMap s page after entries
   pub same : (n : ℕ) → times n after ≡ times n reached
 
-headed : (s : Store) (d : ℕ) (body : Body d) (rank page : ℕ) (t : Stub) (stubs : List Stub) (entries : List Entry) (reached : List ℕ) → rank ≡ d → rank ≤ 32
-    → stubs ≡ t ∷ [] → t.load ≡ child page → stubs ≡ stubs_of d body
+headed : (s : Store) (d : ℕ) (body : Body d) (rank page : ℕ) (t : Slot) (slots : List Slot) (entries : List Entry) (reached : List ℕ) → rank ≡ d → rank ≤ 32
+    → slots ≡ t ∷ [] → t.load ≡ child page → slots ≡ slots_of d body
     → IsSpread d [] None body → Shows s d body → entries_of d body ≡ entries → ((n : ℕ) → times n (pages_of d body) ≡ times n reached)
     → IsHead s page entries reached
-headed s zero [] rank page t stubs entries reached e le one load is spread shown es ps = (let none : t ∷ [] ≡ [] = sym one ∙ is in cc)
-headed s zero (x ∷ xs) rank page t stubs entries reached e le one load is spread shown es ps =
-    (let same : t ∷ [] ≡ pair_stub x ∷ map pair_stub xs = sym one ∙ is in cc)
-headed s (suc d) [] rank page t stubs entries reached e le one load is spread shown es ps = (let none : t ∷ [] ≡ [] = sym one ∙ is in cc)
-headed s (suc d) (w ∷ v ∷ vs) rank page t stubs entries reached e le one load is spread shown es ps = absurd (omega (arith, ap length (sym one ∙ is)))
-headed s (suc d) (w ∷ []) rank page t stubs entries reached e le one load is spread shown es ps =
-    let same : t ≡ twig_stub w = (let both : t ∷ [] ≡ twig_stub w ∷ [] = sym one ∙ is in cc) in
-    let page_is : w.page ≡ page = (let loads : child w.page ≡ child page = sym (ap (λ (u : Stub). u.load) same) ∙ load in cc) in
+headed s zero [] rank page t slots entries reached e le one load is spread shown es ps = (let none : t ∷ [] ≡ [] = sym one ∙ is in cc)
+headed s zero (x ∷ xs) rank page t slots entries reached e le one load is spread shown es ps =
+    (let same : t ∷ [] ≡ pair_slot x ∷ map pair_slot xs = sym one ∙ is in cc)
+headed s (suc d) [] rank page t slots entries reached e le one load is spread shown es ps = (let none : t ∷ [] ≡ [] = sym one ∙ is in cc)
+headed s (suc d) (w ∷ v ∷ vs) rank page t slots entries reached e le one load is spread shown es ps = absurd (omega (arith, ap length (sym one ∙ is)))
+headed s (suc d) (w ∷ []) rank page t slots entries reached e le one load is spread shown es ps =
+    let same : t ≡ subtree_slot w = (let both : t ∷ [] ≡ subtree_slot w ∷ [] = sym one ∙ is in cc) in
+    let page_is : w.page ≡ page = (let loads : child w.page ≡ child page = sym (ap (λ (u : Slot). u.load) same) ∙ load in cc) in
     subst (λ p. IsHead s p entries reached) page_is (record {
       after = w.page ∷ pages_of d w.body;
       map = inr (record {
@@ -117,11 +117,11 @@ headed s (suc d) (w ∷ []) rank page t stubs entries reached e le one load is s
       same = λ n. sym (ap (times n) (append-nil (w.page ∷ pages_of d w.body))) ∙ ps n;
     })
 
-pub head_of_one : (s : Store) (entries : List Entry) (reached : List ℕ) (sheaf : Sheaf) (page : ℕ) (t : Stub) → IsHeld s 0 [] None entries reached sheaf
-    → sheaf.rank ≤ 32 → sheaf.stubs ≡ t ∷ [] → t.load ≡ child page → IsHead s page entries reached
-head_of_one s entries reached sheaf page t h le one load =
-    headed s h.d h.body sheaf.rank page t sheaf.stubs entries reached
-    (omega (arith, h.rank_is (omega (arith, ap length one)))) le one load h.stubs_are h.spread h.shown h.entries_are h.pages_are
+pub head_of_one : (s : Store) (entries : List Entry) (reached : List ℕ) (model : NodeModel) (page : ℕ) (t : Slot) → IsHeld s 0 [] None entries reached model
+    → model.rank ≤ 32 → model.slots ≡ t ∷ [] → t.load ≡ child page → IsHead s page entries reached
+head_of_one s entries reached model page t h le one load =
+    headed s h.d h.body model.rank page t model.slots entries reached
+    (omega (arith, h.rank_is (omega (arith, ap length one)))) le one load h.slots_are h.spread h.shown h.entries_are h.pages_are
 
 -- what was turned so far, and stands below one page
 pub changed_head : (old new : Store) (page : ℕ) (entries : List Entry) (before reached : List ℕ) → AreTurned old new before reached
@@ -133,10 +133,10 @@ itself s pages = λ n. omega arith
 
 -- ---- nothing is left
 
-pub changed_none : (s : Store) (entries : List Entry) (reached : List ℕ) (sheaf : Sheaf) → IsHeld s 0 [] None entries reached sheaf → length sheaf.stubs ≡ 0
+pub changed_none : (s : Store) (entries : List Entry) (reached : List ℕ) (model : NodeModel) → IsHeld s 0 [] None entries reached model → length model.slots ≡ 0
     → IsChanged s s 0 entries reached
-changed_none s entries reached sheaf h none =
-    let empty = no_entries h.d h.body (omega (arith, ap length h.stubs_are)) in
+changed_none s entries reached model h none =
+    let empty = no_entries h.d h.body (omega (arith, ap length h.slots_are)) in
     record { after = []; map = inl (refl, (refl, sym h.entries_are ∙ empty.0)); turned = λ n. omega (arith, empty.1 n, h.pages_are n) }
 
 -- ---- one change behind another
@@ -160,21 +160,21 @@ change_failed old new entries before (Ok root) f h c = absurd h
 change_failed old new entries before (Err e) f h c = inl (subst (HasCause old new) (sym h) c)
 
 -- more than one child, or a cell
-pub ready_top : (s : Store) (entries : List Entry) (reached : List ℕ) (sheaf : Sheaf) → IsHeld s 0 [] None entries reached sheaf → 0 < length sheaf.stubs
-    → ((t : Stub) → sheaf.stubs ≡ t ∷ [] → IsChild t.load → ⊥) → IsReady 0 sheaf
-ready_top s entries reached sheaf h some other = go h.d h.body sheaf.stubs (omega (arith, h.rank_is some)) some h.stubs_are other
+pub ready_top : (s : Store) (entries : List Entry) (reached : List ℕ) (model : NodeModel) → IsHeld s 0 [] None entries reached model → 0 < length model.slots
+    → ((t : Slot) → model.slots ≡ t ∷ [] → IsChild t.load → ⊥) → IsReady 0 model
+ready_top s entries reached model h some other = go h.d h.body model.slots (omega (arith, h.rank_is some)) some h.slots_are other
   where
-    go : (d : ℕ) (body : Body d) (stubs : List Stub) → sheaf.rank ≡ d → 0 < length stubs → stubs ≡ stubs_of d body
-        → ((t : Stub) → stubs ≡ t ∷ [] → IsChild t.load → ⊥) → (0 < length stubs) × ((sheaf.rank ≡ 0) ⊎ (2 ≤ length stubs))
-    go zero body stubs e lt is no_child = (lt, inl e)
-    go (suc d) [] stubs e lt is no_child = absurd (omega (arith, ap length is))
-    go (suc d) (w ∷ []) stubs e lt is no_child = absurd (no_child (twig_stub w) is tt)
-    go (suc d) (w ∷ v ∷ vs) stubs e lt is no_child = (lt, inr (omega (arith, ap length is)))
+    go : (d : ℕ) (body : Body d) (slots : List Slot) → model.rank ≡ d → 0 < length slots → slots ≡ slots_of d body
+        → ((t : Slot) → slots ≡ t ∷ [] → IsChild t.load → ⊥) → (0 < length slots) × ((model.rank ≡ 0) ⊎ (2 ≤ length slots))
+    go zero body slots e lt is no_child = (lt, inl e)
+    go (suc d) [] slots e lt is no_child = absurd (omega (arith, ap length is))
+    go (suc d) (w ∷ []) slots e lt is no_child = absurd (no_child (subtree_slot w) is tt)
+    go (suc d) (w ∷ v ∷ vs) slots e lt is no_child = (lt, inr (omega (arith, ap length is)))
 
-pub many_stubs : (s : Store) (entries : List Entry) (reached : List ℕ) (sheaf : Sheaf) → IsHeld s 0 [] None entries reached sheaf → sheaf.rank ≡ 32
-    → 0 < length sheaf.stubs → ((t : Stub) → sheaf.stubs ≡ t ∷ [] → IsChild t.load → ⊥) → 2 ≤ length sheaf.stubs
-many_stubs s entries reached sheaf h high some other =
-    elim (ready_top s entries reached sheaf h some other).1 [ inl low ↦ absurd (omega arith) | inr two ↦ two ]
+pub many_slots : (s : Store) (entries : List Entry) (reached : List ℕ) (model : NodeModel) → IsHeld s 0 [] None entries reached model → model.rank ≡ 32
+    → 0 < length model.slots → ((t : Slot) → model.slots ≡ t ∷ [] → IsChild t.load → ⊥) → 2 ≤ length model.slots
+many_slots s entries reached model h high some other =
+    elim (ready_top s entries reached model h some other).1 [ inl low ↦ absurd (omega arith) | inr two ↦ two ]
 
 -- ---- edits of the empty tree, and of a tree
 
@@ -193,14 +193,14 @@ pub record IsFirst (s : Store) (page level d : ℕ) : Type 0 where
   pub part : IsPart s page level below low high body
   pub one_less : d ≡ below + 1
 
-pub first_part : (s : Store) (page level below d : ℕ) (low : List ℕ) (high : Option (List ℕ)) (body : Body d) (arms : List Arm)
-    → branch arms ≡ content_of d body → ((e : Arm) → (get_or arms 0 e).child ≡ below) → IsPart s page level d low high body
+pub first_part : (s : Store) (page level below d : ℕ) (low : List ℕ) (high : Option (List ℕ)) (body : Body d) (pivots : List Pivot)
+    → branch pivots ≡ content_of d body → ((e : Pivot) → (get_or pivots 0 e).child ≡ below) → IsPart s page level d low high body
     → IsFirst s below (level + 1) d
-first_part s page level below zero low high body arms e here p = cc
-first_part s page level below (suc d) low high [] arms e here p = let two : 2 ≤ 0 = p.whole.some in absurd (omega arith)
-first_part s page level below (suc d) low high (w ∷ ws) arms e here p =
-    let same : arms ≡ arm_of w ∷ map arm_of ws = cc in
-    let page_is : w.page ≡ below = sym (ap (λ (zs : List Arm). (get_or zs 0 (arm_of w)).child) same) ∙ here (arm_of w) in
+first_part s page level below zero low high body pivots e here p = cc
+first_part s page level below (suc d) low high [] pivots e here p = let two : 2 ≤ 0 = p.whole.some in absurd (omega arith)
+first_part s page level below (suc d) low high (w ∷ ws) pivots e here p =
+    let same : pivots ≡ pivot_of w ∷ map pivot_of ws = cc in
+    let page_is : w.page ≡ below = sym (ap (λ (zs : List Pivot). (get_or zs 0 (pivot_of w)).child) same) ∙ here (pivot_of w) in
     let deep : suc d + level < 32 = p.depth in
     subst (λ n. IsFirst s n (level + 1) (suc d)) page_is (record {
       below = d;
@@ -212,14 +212,15 @@ first_part s page level below (suc d) low high (w ∷ ws) arms e here p =
     })
 
 -- what was turned after calls that only read
-pub turned_behind : (old mid new : Store) (edits : List Edit) (entries of : List Entry) (before pages : List ℕ) (r : Result Loose TreeFault) → IsSame old mid
+pub turned_behind : (old mid new : Store) (edits : List Edit) (entries of : List Entry) (before pages : List ℕ) (r : Result LooseNode TreeFault)
+    → IsSame old mid
     → entries ≡ of → before ≡ pages
-    → IsAnswer mid new (λ loose. IsTurned mid new 0 [] None (change edits of) pages (sheaf_in loose)) r
-    → IsAnswer old new (λ loose. IsTurned old new 0 [] None (change edits entries) before (sheaf_in loose)) r
-turned_behind old mid new edits entries of before pages (Ok loose) same es ps u =
+    → IsAnswer mid new (λ node. IsTurned mid new 0 [] None (change edits of) pages (model_in node)) r
+    → IsAnswer old new (λ node. IsTurned old new 0 [] None (change edits entries) before (model_in node)) r
+turned_behind old mid new edits entries of before pages (Ok node) same es ps u =
     record {
       after = u.after;
-      held = subst (λ xs. IsHeld new 0 [] None (change edits xs) u.after (sheaf_in loose)) (sym es) u.held;
+      held = subst (λ xs. IsHeld new 0 [] None (change edits xs) u.after (model_in node)) (sym es) u.held;
       turned = λ n. omega (arith, u.turned n, ap (times n) same.made, ap (times n) same.retired, ap (times n) ps);
     }
 turned_behind old mid new edits entries of before pages (Err e) same es ps u = cause_later old mid new e (frame_same old mid same) u

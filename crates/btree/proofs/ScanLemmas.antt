@@ -7,16 +7,16 @@ use Rattle.std.specs.declared.cmp.Ordering.TheVariants.{Less, Equal, Greater}
 use Rattle.std.specs.Ordering.{is_lt}
 use Rattle.btree.specs.declared.scanning.Entry.{Entry as KeptEntry}
 use Rattle.btree.specs.declared.scanning.Filling.{Filling}
-use Rattle.page.specs.Content.{Item, Arm, branch, leaf}
+use Rattle.page.specs.Content.{Item, Pivot, branch, leaf}
 use Rattle.btree.specs.Keys.{Pair, Entry, entry_of, Each, Rises, IsUnder, IsNotUnder, IsWithin, IsPast, key_cmp, keep_if, is_within, window}
 use Rattle.btree.specs.Search.{IsPlace, IsEndPlace, IsChildPlace, AreBounds}
 use Rattle.std.specs.Result.{IsErrAnd}
 use Rattle.btree.specs.declared.pages.TreeFault.{TreeFault}
 use Rattle.btree.specs.Calls.{IsAnswer, IsBatch, IsPart}
-use Rattle.btree.specs.Scan.{Fills, Holds, entry_in}
+use Rattle.btree.specs.Scan.{Fills, HoldsBatch, entry_in}
 use Rattle.btree.proofs.StoreLemmas.{cause_later, part_kept, shows_kept}
 use Rattle.btree.specs.Store.{Store, Frame, HasCause}
-use Rattle.btree.specs.Tree.{Twig, Body, HasChain, Shows, IsSound, IsWhole, arm_of, entries_of, item_of, pair_keys, pairs_of, twig_keys, with_low}
+use Rattle.btree.specs.Tree.{Subtree, Body, HasChain, Shows, IsSound, IsWhole, pivot_of, entries_of, item_of, pair_keys, pairs_of, subtree_keys, with_low}
 use Rattle.btree.proofs.KeyLemmas.{not_both, not_under_trans, under_then_up_to, under_trans, within_wider}
 use Rattle.btree.proofs.ListLemmas.{each_back, each_get, each_map, each_of_map, cut_at, flat_append, long_map, map_append, rises_back}
 use Rattle.btree.proofs.GetLemmas.{child_part, open_branch, open_leaf, from_is, front_is_under, place_here}
@@ -253,52 +253,54 @@ scan_failed old mid new so (Err f) e grows h cause = subst (HasCause old new) (s
 
 -- ---- a branch
 
-pub entries_append : (d : ℕ) (xs ys : List (Twig (Body d))) → entries_of (suc d) (xs ++ ys) ≡ entries_of (suc d) xs ++ entries_of (suc d) ys
+pub entries_append : (d : ℕ) (xs ys : List (Subtree (Body d))) → entries_of (suc d) (xs ++ ys) ≡ entries_of (suc d) xs ++ entries_of (suc d) ys
 entries_append d xs ys =
-    ap (map entry_of) (flat_append (λ (w : Twig (Body d)). pairs_of d w.body) xs ys) ∙ map_append entry_of (pairs_of (suc d) xs) (pairs_of (suc d) ys)
+    ap (map entry_of) (flat_append (λ (w : Subtree (Body d)). pairs_of d w.body) xs ys) ∙ map_append entry_of (pairs_of (suc d) xs) (pairs_of (suc d) ys)
 
 -- what stands from a child on isn't below its low bound
-from_child : (d : ℕ) (low : List ℕ) (high : Option (List ℕ)) (front : List (Twig (Body d))) (w : Twig (Body d)) (back : List (Twig (Body d)))
+from_child : (d : ℕ) (low : List ℕ) (high : Option (List ℕ)) (front : List (Subtree (Body d))) (w : Subtree (Body d)) (back : List (Subtree (Body d)))
     → IsSound (suc d) low high (front ++ w ∷ back)
     → Each (λ (x : Pair). IsNotUnder x.key (low_of low front w.key)) (pairs_of (suc d) (w ∷ back))
 from_child d low high front w back h =
     let Lies : List ℕ → Option (List ℕ) → Body d → Type 0 = λ from to body. IsWhole d body × IsSound d from to body in
     let from : List ℕ = low_of low front w.key in
-    let w' : Twig (Body d) = record { key = from; page = w.page; body = w.body } in
-    let r : Rises (twig_keys (with_low low front) ++ from ∷ twig_keys back) = subst Rises (keys_around low front w back) h.1 in
-    let i : Each (IsWithin high) (twig_keys (with_low low front) ++ from ∷ twig_keys back) = subst (Each (IsWithin high)) (keys_around low front w back) h.2 in
+    let w' : Subtree (Body d) = record { key = from; page = w.page; body = w.body } in
+    let r : Rises (subtree_keys (with_low low front) ++ from ∷ subtree_keys back) = subst Rises (keys_around low front w back) h.1 in
+    let i : Each (IsWithin high) (subtree_keys (with_low low front) ++ from ∷ subtree_keys back) = subst (Each (IsWithin high)) (keys_around low front w back)
+    h.2 in
     each_map _ _ (λ x b. b.0) _
     (fan_between Lies (pairs_of d) (λ from to body s. pairs_between d from to body s.1) high w' back
     (fans_around Lies (pairs_of d) (λ from to body s. pairs_between d from to body s.1) high low front w back h.0).1
-    (rises_back (twig_keys (with_low low front)) _ r) (each_back _ (twig_keys (with_low low front)) _ i))
+    (rises_back (subtree_keys (with_low low front)) _ r) (each_back _ (subtree_keys (with_low low front)) _ i))
 
 -- a child at a place of a branch
-pub record IsChild (s : Store) (level d : ℕ) (twigs : List (Twig (Body d))) (i child : ℕ) (from : List ℕ) (to : Option (List ℕ)) : Type 0 where
+pub record IsChild (s : Store) (level d : ℕ) (subtrees : List (Subtree (Body d))) (i child : ℕ) (from : List ℕ) (to : Option (List ℕ)) : Type 0 where
   pub body : Body d
   pub others : List Entry
   pub part : IsPart s child (level + 1) d from to body
-  pub more : entries_of (suc d) (take (i + 1) twigs) ≡ entries_of (suc d) (take i twigs) ++ entries_of d body
-  pub whole : entries_of (suc d) twigs ≡ entries_of (suc d) (take i twigs) ++ (entries_of d body ++ others)
+  pub more : entries_of (suc d) (take (i + 1) subtrees) ≡ entries_of (suc d) (take i subtrees) ++ entries_of d body
+  pub whole : entries_of (suc d) subtrees ≡ entries_of (suc d) (take i subtrees) ++ (entries_of d body ++ others)
   pub not_under : Each (λ (x : Entry). IsNotUnder x.key from) (entries_of d body ++ others)
 
-module _ (s : Store) (page level d : ℕ) (low : List ℕ) (high : Option (List ℕ)) (twigs : List (Twig (Body d))) (arms : List Arm) (e : arms ≡ map arm_of twigs)
-    (part : IsPart s page level (suc d) low high twigs) where
-  pub child_here : (i child : ℕ) (from : List ℕ) (to : Option (List ℕ)) → i < length arms → AreBounds low high arms i from to
-      → ((a : Arm) → (get_or arms i a).child ≡ child) → IsChild s level d twigs i child from to
+module _ (s : Store) (page level d : ℕ) (low : List ℕ) (high : Option (List ℕ)) (subtrees : List (Subtree (Body d))) (pivots : List Pivot)
+    (e : pivots ≡ map pivot_of subtrees)
+    (part : IsPart s page level (suc d) low high subtrees) where
+  pub child_here : (i child : ℕ) (from : List ℕ) (to : Option (List ℕ)) → i < length pivots → AreBounds low high pivots i from to
+      → ((a : Pivot) → (get_or pivots i a).child ≡ child) → IsChild s level d subtrees i child from to
   child_here i child from to lt bounds is =
-      let long : length arms ≡ length twigs = ap length e ∙ long_map arm_of twigs in
-      let c = split_at twigs i (omega arith) in
-      let front : List (Twig (Body d)) = take i twigs in
-      let arms_are : arms ≡ map arm_of (front ++ c.mid ∷ c.back) = e ∙ ap (map arm_of) c.is in
-      let bounds' : AreBounds low high (map arm_of (front ++ c.mid ∷ c.back)) (length front) from to =
-      subst (λ n. AreBounds low high (map arm_of (front ++ c.mid ∷ c.back)) n from to) (sym c.long)
-      (subst (λ zs. AreBounds low high zs i from to) arms_are bounds) in
+      let long : length pivots ≡ length subtrees = ap length e ∙ long_map pivot_of subtrees in
+      let c = split_at subtrees i (omega arith) in
+      let front : List (Subtree (Body d)) = take i subtrees in
+      let pivots_are : pivots ≡ map pivot_of (front ++ c.mid ∷ c.back) = e ∙ ap (map pivot_of) c.is in
+      let bounds' : AreBounds low high (map pivot_of (front ++ c.mid ∷ c.back)) (length front) from to =
+      subst (λ n. AreBounds low high (map pivot_of (front ++ c.mid ∷ c.back)) n from to) (sym c.long)
+      (subst (λ zs. AreBounds low high zs i from to) pivots_are bounds) in
       let part' : IsPart s page level (suc d) low high (front ++ c.mid ∷ c.back) =
-      subst (λ (ts : List (Twig (Body d))). IsPart s page level (suc d) low high ts) c.is part in
+      subst (λ (ts : List (Subtree (Body d))). IsPart s page level (suc d) low high ts) c.is part in
       let page_is : c.mid.page ≡ child =
-      sym (ap (λ (a : Arm). a.child) (place_here front c.mid c.back (arm_of c.mid)))
-      ∙ ap (λ n. (get_or (map arm_of (front ++ c.mid ∷ c.back)) n (arm_of c.mid)).child) c.long
-      ∙ ap (λ zs. (get_or zs i (arm_of c.mid)).child) (sym arms_are) ∙ is (arm_of c.mid) in
+      sym (ap (λ (a : Pivot). a.child) (place_here front c.mid c.back (pivot_of c.mid)))
+      ∙ ap (λ n. (get_or (map pivot_of (front ++ c.mid ∷ c.back)) n (pivot_of c.mid)).child) c.long
+      ∙ ap (λ zs. (get_or zs i (pivot_of c.mid)).child) (sym pivots_are) ∙ is (pivot_of c.mid) in
       let from_same : from ≡ low_of low front c.mid.key = from_is low high front c.mid c.back from to bounds' in
       let rest_is : entries_of (suc d) (c.mid ∷ c.back) ≡ entries_of d c.mid.body ++ entries_of (suc d) c.back =
       map_append entry_of (pairs_of d c.mid.body) (pairs_of (suc d) c.back) in
@@ -314,51 +316,51 @@ module _ (s : Store) (page level d : ℕ) (low : List ℕ) (high : Option (List 
             (from_child d low high front c.mid c.back part'.sound)));
       }
 
-  pub none_before : (from : List ℕ) (to : Option (List ℕ)) (start : ℕ) → IsChildPlace arms from start
-      → window from to (entries_of (suc d) (take start twigs)) ≡ []
+  pub none_before : (from : List ℕ) (to : Option (List ℕ)) (start : ℕ) → IsChildPlace pivots from start
+      → window from to (entries_of (suc d) (take start subtrees)) ≡ []
   none_before from to start place =
-      let long : length arms ≡ length twigs = ap length e ∙ long_map arm_of twigs in
-      let c = split_at twigs start (omega (arith, place.within)) in
-      let front : List (Twig (Body d)) = take start twigs in
-      let arms_are : arms ≡ map arm_of (front ++ c.mid ∷ c.back) = e ∙ ap (map arm_of) c.is in
-      let place' : IsChildPlace (map arm_of (front ++ c.mid ∷ c.back)) from (length front) =
-      subst (λ n. IsChildPlace (map arm_of (front ++ c.mid ∷ c.back)) from n) (sym c.long) (subst (λ zs. IsChildPlace zs from start) arms_are place) in
+      let long : length pivots ≡ length subtrees = ap length e ∙ long_map pivot_of subtrees in
+      let c = split_at subtrees start (omega (arith, place.within)) in
+      let front : List (Subtree (Body d)) = take start subtrees in
+      let pivots_are : pivots ≡ map pivot_of (front ++ c.mid ∷ c.back) = e ∙ ap (map pivot_of) c.is in
+      let place' : IsChildPlace (map pivot_of (front ++ c.mid ∷ c.back)) from (length front) =
+      subst (λ n. IsChildPlace (map pivot_of (front ++ c.mid ∷ c.back)) from n) (sym c.long) (subst (λ zs. IsChildPlace zs from start) pivots_are place) in
       go c.mid c.back front (subst (IsSound (suc d) low high) c.is part.sound) place'
     where
-      go : (w : Twig (Body d)) (back : List (Twig (Body d))) (front : List (Twig (Body d))) → IsSound (suc d) low high (front ++ w ∷ back)
-          → IsChildPlace (map arm_of (front ++ w ∷ back)) from (length front)
+      go : (w : Subtree (Body d)) (back : List (Subtree (Body d))) (front : List (Subtree (Body d))) → IsSound (suc d) low high (front ++ w ∷ back)
+          → IsChildPlace (map pivot_of (front ++ w ∷ back)) from (length front)
           → window from to (entries_of (suc d) front) ≡ []
       go w back [] h p = refl
       go w back (f ∷ fs) h p =
           let a = around_child d low high (f ∷ fs) w back h in
           let low_is : IsNotUnder from w.key =
-          subst (λ (x : Arm). IsNotUnder from x.key) (place_here (f ∷ fs) w back (arm_of w)) (p.below (arm_of w) (omega arith)) in
+          subst (λ (x : Pivot). IsNotUnder from x.key) (place_here (f ∷ fs) w back (pivot_of w)) (p.below (pivot_of w) (omega arith)) in
           window_under from to (entries_of (suc d) (f ∷ fs))
           (each_entry (λ k. IsUnder k from) (pairs_of (suc d) (f ∷ fs))
           (each_map _ _ (λ x u. under_then_up_to x.key w.key from u low_is) (pairs_of (suc d) (f ∷ fs)) a.before))
 
-module _ (s : Store) (level d : ℕ) (twigs : List (Twig (Body d))) (i child : ℕ) (from to_key : List ℕ) (high to : Option (List ℕ))
-    (h : IsChild s level d twigs i child from high) (all : List Entry) where
-  pub child_on : (all ++ window to_key to (entries_of (suc d) (take i twigs))) ++ window to_key to (entries_of d h.body) ≡ all
-      ++ window to_key to (entries_of (suc d) (take (i + 1) twigs))
+module _ (s : Store) (level d : ℕ) (subtrees : List (Subtree (Body d))) (i child : ℕ) (from to_key : List ℕ) (high to : Option (List ℕ))
+    (h : IsChild s level d subtrees i child from high) (all : List Entry) where
+  pub child_on : (all ++ window to_key to (entries_of (suc d) (take i subtrees))) ++ window to_key to (entries_of d h.body) ≡ all
+      ++ window to_key to (entries_of (suc d) (take (i + 1) subtrees))
   child_on =
-      append_assoc all (window to_key to (entries_of (suc d) (take i twigs))) (window to_key to (entries_of d h.body))
-      ∙ ap (λ zs. all ++ zs) (sym (window_append to_key to (entries_of (suc d) (take i twigs)) (entries_of d h.body)) ∙ ap (window to_key to) (sym h.more))
+      append_assoc all (window to_key to (entries_of (suc d) (take i subtrees))) (window to_key to (entries_of d h.body))
+      ∙ ap (λ zs. all ++ zs) (sym (window_append to_key to (entries_of (suc d) (take i subtrees)) (entries_of d h.body)) ∙ ap (window to_key to) (sym h.more))
 
-  pub child_past : IsPast to from → all ++ window to_key to (entries_of (suc d) (take i twigs)) ≡ all ++ window to_key to (entries_of (suc d) twigs)
+  pub child_past : IsPast to from → all ++ window to_key to (entries_of (suc d) (take i subtrees)) ≡ all ++ window to_key to (entries_of (suc d) subtrees)
   child_past p =
-      ap (λ zs. all ++ zs) (sym (append-nil (window to_key to (entries_of (suc d) (take i twigs))))
-      ∙ ap (λ zs. window to_key to (entries_of (suc d) (take i twigs)) ++ zs)
+      ap (λ zs. all ++ zs) (sym (append-nil (window to_key to (entries_of (suc d) (take i subtrees))))
+      ∙ ap (λ zs. window to_key to (entries_of (suc d) (take i subtrees)) ++ zs)
       (sym (window_past to_key to (entries_of d h.body ++ h.others)
       (each_map _ _ (λ y u. past_on to from y.key p u) (entries_of d h.body ++ h.others) h.not_under)))
-      ∙ sym (window_append to_key to (entries_of (suc d) (take i twigs)) (entries_of d h.body ++ h.others)) ∙ ap (window to_key to) (sym h.whole))
+      ∙ sym (window_append to_key to (entries_of (suc d) (take i subtrees)) (entries_of d h.body ++ h.others)) ∙ ap (window to_key to) (sym h.whole))
 
-  pub child_rest : (all ++ window to_key to (entries_of (suc d) (take i twigs))) ++ window to_key to (entries_of d h.body ++ h.others) ≡ all
-      ++ window to_key to (entries_of (suc d) twigs)
+  pub child_rest : (all ++ window to_key to (entries_of (suc d) (take i subtrees))) ++ window to_key to (entries_of d h.body ++ h.others) ≡ all
+      ++ window to_key to (entries_of (suc d) subtrees)
   child_rest =
-      append_assoc all (window to_key to (entries_of (suc d) (take i twigs))) (window to_key to (entries_of d h.body ++ h.others))
+      append_assoc all (window to_key to (entries_of (suc d) (take i subtrees))) (window to_key to (entries_of d h.body ++ h.others))
       ∙ ap (λ zs. all ++ zs)
-      (sym (window_append to_key to (entries_of (suc d) (take i twigs)) (entries_of d h.body ++ h.others)) ∙ ap (window to_key to) (sym h.whole))
+      (sym (window_append to_key to (entries_of (suc d) (take i subtrees)) (entries_of d h.body ++ h.others)) ∙ ap (window to_key to) (sym h.whole))
 
 -- a batch before any entry
 abbrev pub filling : Global → ℕ → Vec KeptEntry Global → Filling
@@ -368,20 +370,20 @@ pub fills_none : (alloc : Global) (limit : ℕ) (entries : Vec KeptEntry Global)
     → Fills (filling alloc limit entries) [] (filling alloc limit entries)
 fills_none alloc limit entries e = (refl, subst (λ es. IsBatch limit [] (map entry_in es) None) (sym e) (refl, omega arith))
 
-pub filled : (start now : Filling) (all : List Entry) → Fills start all now → Holds start.limit all now.batch
-filled start now all h = subst (λ n. Holds n all now.batch) h.0 h.1
+pub filled : (start now : Filling) (all : List Entry) → Fills start all now → HoldsBatch start.limit all now.batch
+filled start now all h = subst (λ n. HoldsBatch n all now.batch) h.0 h.1
 
 -- ---- the program's steps below a branch
 
-module _ (old mid : Store) (page level : ℕ) (low : List ℕ) (high : Option (List ℕ)) (arms : List Arm) (holds : old.page page ≡ branch arms)
+module _ (old mid : Store) (page level : ℕ) (low : List ℕ) (high : Option (List ℕ)) (pivots : List Pivot) (holds : old.page page ≡ branch pivots)
     (grows : Frame old mid) where
   abbrev pub AtBranch : ((d : ℕ) → Body d → Type 0) → Type 0
-  AtBranch C = (d : ℕ) (twigs : Body (suc d)) → arms ≡ map arm_of twigs → IsPart mid page level (suc d) low high twigs → C (suc d) twigs
+  AtBranch C = (d : ℕ) (subtrees : Body (suc d)) → pivots ≡ map pivot_of subtrees → IsPart mid page level (suc d) low high subtrees → C (suc d) subtrees
 
   pub at_branch : (C : (d : ℕ) → Body d → Type 0) → AtBranch C → (d : ℕ) (body : Body d) → IsPart old page level d low high body → C d body
   at_branch C says d body part =
-      open_branch (λ d body. IsPart old page level d low high body → C d body) arms
-      (λ d twigs e p. says d twigs e (part_kept old mid grows page level (suc d) low high twigs p)) d body (sym holds ∙ part.at.holds) part
+      open_branch (λ d body. IsPart old page level d low high body → C d body) pivots
+      (λ d subtrees e p. says d subtrees e (part_kept old mid grows page level (suc d) low high subtrees p)) d body (sym holds ∙ part.at.holds) part
 
 pub scan_leaf_below : {X : Type 0} (old mid new : Store) (page level : ℕ) (low : List ℕ) (high : Option (List ℕ)) (items : List Item) (so : List Entry
     → Type 0) (r : Result X TreeFault) → Frame old mid

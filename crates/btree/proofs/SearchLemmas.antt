@@ -1,7 +1,7 @@
 -- Keys of a page that lie between bounds.
 use Rattle.std.proofs.Common.{◌≡◌, ℕ, zero, suc, ◌<◌, List, [], ◌∷◌, length, map, get_or, Option, Some, slice_get, ap, sym, subst, arith}
 use Rattle.btree.specs.Keys.{IsBetween}
-use Rattle.page.specs.Content.{inline, Item, Arm, leaf, branch}
+use Rattle.page.specs.Content.{inline, Item, Pivot, leaf, branch}
 use Rattle.btree.specs.Search.{LieBetween}
 use Rattle.btree.proofs.ListLemmas.{each_get, each_of_map}
 
@@ -27,12 +27,12 @@ module _ (low : List ℕ) (high : Option (List ℕ)) (i : ℕ) (key : List ℕ) 
       let d : Item = record { key = []; place = inline [] } in
       subst (IsBetween low high) (sym (is d)) (each_get (λ x. IsBetween low high x.key) items i d lt (each_of_map (IsBetween low high) (λ x. x.key) items h))
 
-pub in_branch : (low : List ℕ) (high : Option (List ℕ)) (i : ℕ) (key : List ℕ) (arms : List Arm) → ((d : Arm) → key ≡ (get_or arms i d).key) → 0 < i
-    → i < length arms → LieBetween low high (branch arms)
+pub in_branch : (low : List ℕ) (high : Option (List ℕ)) (i : ℕ) (key : List ℕ) (pivots : List Pivot) → ((d : Pivot) → key ≡ (get_or pivots i d).key) → 0 < i
+    → i < length pivots → LieBetween low high (branch pivots)
     → IsBetween low high key
 in_branch low high i key [] is pos lt h = absurd (omega arith)
-in_branch low high zero key (a ∷ arms) is pos lt h = absurd (omega arith)
-in_branch low high (suc i) key (a ∷ arms) is pos lt h =
-    let d : Arm = record { key = []; child = 0 } in
+in_branch low high zero key (a ∷ pivots) is pos lt h = absurd (omega arith)
+in_branch low high (suc i) key (a ∷ pivots) is pos lt h =
+    let d : Pivot = record { key = []; child = 0 } in
     subst (IsBetween low high) (sym (is d))
-    (each_get (λ x. IsBetween low high x.key) arms i d (omega arith) (each_of_map (IsBetween low high) (λ x. x.key) arms h))
+    (each_get (λ x. IsBetween low high x.key) pivots i d (omega arith) (each_of_map (IsBetween low high) (λ x. x.key) pivots h))

@@ -2,11 +2,11 @@
 use Rattle.std.proofs.Common.{◌≡◌, ℕ, zero, suc, ◌+◌, ◌<◌, ◌≤◌, take, drop, get_or, List, [], ◌∷◌, ◌++◌, length, Option, refl, sym, ap, ◌∙◌, subst, arith, inl}
 use Rattle.std.proofs.Common.{inr}
 use Rattle.btree.specs.Keys.{Edit, Entry, Each, IsBetween, IsNotUnder, IsUnder, Rises, change, times}
-use Rattle.btree.specs.Loose.{IsSpread, IsStub, Stub, first_or, stubs_of}
+use Rattle.btree.specs.Loose.{IsSpread, IsSlot, Slot, first_or, slots_of}
 use Rattle.btree.specs.Change.{IsBehind, edit_keys}
 use Rattle.btree.specs.Store.{Store}
-use Rattle.btree.specs.Tree.{Body, Shows, entries_of, pages_of, pairs_of, pair_keys, twig_keys}
-use Rattle.btree.specs.Turn.{IsHeld, Sheaf}
+use Rattle.btree.specs.Tree.{Body, Shows, entries_of, pages_of, pairs_of, pair_keys, subtree_keys}
+use Rattle.btree.specs.Turn.{IsHeld, NodeModel}
 use Rattle.btree.proofs.KeyLemmas.{not_both, not_under_itself, not_under_trans, under_then_up_to, under_trans}
 use Rattle.btree.proofs.ListLemmas.{each_back, each_front, each_map, each_of_map, long_append, map_append}
 use Rattle.btree.proofs.FanLemmas.{fan_between, pairs_between}
@@ -24,18 +24,18 @@ spread_between (suc d) low high [] h = tt
 spread_between (suc d) low high (w ∷ ws) h =
     each_map _ _ (λ x b. (not_under_trans low w.key x.key h.2.0.0 b.0, b.1)) _
     (fan_between (Lies d) (pairs_of d) (λ from to body s. pairs_between d from to body s.1) high w ws h.0 h.1
-    (each_map _ _ (λ k b. b.1) (twig_keys (w ∷ ws)) h.2))
+    (each_map _ _ (λ k b. b.1) (subtree_keys (w ∷ ws)) h.2))
 
-pub held_between : (s : Store) (base : ℕ) (low : List ℕ) (high : Option (List ℕ)) (entries : List Entry) (pages : List ℕ) (sheaf : Sheaf)
-    → IsHeld s base low high entries pages sheaf
+pub held_between : (s : Store) (base : ℕ) (low : List ℕ) (high : Option (List ℕ)) (entries : List Entry) (pages : List ℕ) (model : NodeModel)
+    → IsHeld s base low high entries pages model
     → Each (λ (e : Entry). IsBetween low high e.key) entries
-held_between s base low high entries pages sheaf h =
+held_between s base low high entries pages model h =
     subst (Each (λ (e : Entry). IsBetween low high e.key)) h.entries_are
     (each_entry (IsBetween low high) (pairs_of h.d h.body) (spread_between h.d low high h.body h.spread))
 
 -- what is held, in two parts
 pub record IsTwo (s : Store) (base : ℕ) (low : List ℕ) (high : Option (List ℕ)) (entries : List Entry) (pages : List ℕ) (rank : ℕ)
-    (front back : List Stub) : Type 0 where
+    (front back : List Slot) : Type 0 where
   pub between : Option (List ℕ)
   pub front_entries : List Entry
   pub back_entries : List Entry
@@ -44,10 +44,10 @@ pub record IsTwo (s : Store) (base : ℕ) (low : List ℕ) (high : Option (List 
   pub between_is : between ≡ first_or high back
   pub entries_are : front_entries ++ back_entries ≡ entries
   pub pages_are : (n : ℕ) → times n front_pages + times n back_pages ≡ times n pages
-  pub front_held : IsHeld s base low between front_entries front_pages (record { rank = rank; stubs = front })
-  pub behind : IsBehind s base between high back_entries back_pages (record { rank = rank; stubs = back })
+  pub front_held : IsHeld s base low between front_entries front_pages (record { rank = rank; slots = front })
+  pub behind : IsBehind s base between high back_entries back_pages (record { rank = rank; slots = back })
 
-pub spread_up : (d : ℕ) (low : List ℕ) (high : Option (List ℕ)) (body : Body d) (s : Stub) (ss : List Stub) → stubs_of d body ≡ s ∷ ss
+pub spread_up : (d : ℕ) (low : List ℕ) (high : Option (List ℕ)) (body : Body d) (s : Slot) (ss : List Slot) → slots_of d body ≡ s ∷ ss
     → IsSpread d low high body → IsSpread d s.key high body
 spread_up zero low high [] s ss e h = cc
 spread_up zero low high (x ∷ xs) s ss e h = let same : x.key ≡ s.key = cc in
@@ -58,23 +58,24 @@ spread_up zero low high (x ∷ xs) s ss e h = let same : x.key ≡ s.key = cc in
     later (k ∷ ks) u b = ((not_both x.key k u.0, b.0.1), later ks u.1 b.1)
 spread_up (suc d) low high [] s ss e h = cc
 spread_up (suc d) low high (w ∷ ws) s ss e h = let same : w.key ≡ s.key = cc in
-    subst (λ k. IsSpread (suc d) k high (w ∷ ws)) same (h.0, h.1, ((not_under_itself w.key, h.2.0.1), later (twig_keys ws) h.1.0 h.2.1))
+    subst (λ k. IsSpread (suc d) k high (w ∷ ws)) same (h.0, h.1, ((not_under_itself w.key, h.2.0.1), later (subtree_keys ws) h.1.0 h.2.1))
   where
     later : (ks : List (List ℕ)) → Each (IsUnder w.key) ks → Each (IsBetween low high) ks → Each (IsBetween w.key high) ks
     later [] u b = tt
     later (k ∷ ks) u b = ((not_both w.key k u.0, b.0.1), later ks u.1 b.1)
 
-pub two_parts : (s : Store) (base : ℕ) (low : List ℕ) (high : Option (List ℕ)) (entries : List Entry) (pages : List ℕ) (sheaf : Sheaf) (front back : List Stub)
-    → IsHeld s base low high entries pages sheaf → sheaf.stubs ≡ front ++ back
-    → 0 < length front → IsTwo s base low high entries pages sheaf.rank front back
-two_parts s base low high entries pages sheaf front back h e some =
+pub two_parts : (s : Store) (base : ℕ) (low : List ℕ) (high : Option (List ℕ)) (entries : List Entry) (pages : List ℕ) (model : NodeModel)
+    (front back : List Slot)
+    → IsHeld s base low high entries pages model → model.slots ≡ front ++ back
+    → 0 < length front → IsTwo s base low high entries pages model.rank front back
+two_parts s base low high entries pages model front back h e some =
     let p = split_body h.d h.body (length front) in
-    let front_are : front ≡ stubs_of h.d p.front = sym (take_here front back) ∙ ap (take (length front)) (sym e ∙ h.stubs_are) ∙ sym p.front_are in
-    let back_are : back ≡ stubs_of h.d p.back = sym (drop_here front back) ∙ ap (drop (length front)) (sym e ∙ h.stubs_are) ∙ sym p.back_are in
+    let front_are : front ≡ slots_of h.d p.front = sym (take_here front back) ∙ ap (take (length front)) (sym e ∙ h.slots_are) ∙ sym p.front_are in
+    let back_are : back ≡ slots_of h.d p.back = sym (drop_here front back) ∙ ap (drop (length front)) (sym e ∙ h.slots_are) ∙ sym p.back_are in
     let spreads = spread_split h.d low high p.front p.back (subst (IsSpread h.d low high) p.is h.spread) in
     let shown = shows_parts s h.d p.front p.back (subst (Shows s h.d) p.is h.shown) in
-    let small : Each IsStub (front ++ back) = subst (Each IsStub) e h.small in
-    let rank : sheaf.rank ≡ base + h.d = h.rank_is (omega (arith, ap length e, long_append front back)) in
+    let small : Each IsSlot (front ++ back) = subst (Each IsSlot) e h.small in
+    let rank : model.rank ≡ base + h.d = h.rank_is (omega (arith, ap length e, long_append front back)) in
     record {
       between = first_or high back;
       front_entries = entries_of h.d p.front;
@@ -88,19 +89,19 @@ two_parts s base low high entries pages sheaf front back h e some =
         d = h.d;
         body = p.front;
         rank_is = λ lt. rank;
-        stubs_are = front_are;
-        small = each_front IsStub front back small;
+        slots_are = front_are;
+        small = each_front IsSlot front back small;
         spread = subst (λ ss. IsSpread h.d low (first_or high ss) p.front) (sym back_are) spreads.0;
         shown = shown.0;
         entries_are = refl;
         pages_are = λ n. refl;
       };
-      behind = rest h.d rank p.back back back_are spreads.1 shown.1 (each_back IsStub front back small);
+      behind = rest h.d rank p.back back back_are spreads.1 shown.1 (each_back IsSlot front back small);
     }
   where
-    rest : (d : ℕ) → sheaf.rank ≡ base + d → (body : Body d) (back : List Stub) → back ≡ stubs_of d body → IsSpread d low high body → Shows s d body
-        → Each IsStub back
-        → IsBehind s base (first_or high back) high (entries_of d body) (pages_of d body) (record { rank = sheaf.rank; stubs = back })
+    rest : (d : ℕ) → model.rank ≡ base + d → (body : Body d) (back : List Slot) → back ≡ slots_of d body → IsSpread d low high body → Shows s d body
+        → Each IsSlot back
+        → IsBehind s base (first_or high back) high (entries_of d body) (pages_of d body) (record { rank = model.rank; slots = back })
     rest d rank body [] is spread shown small = let empty = no_entries d body (omega (arith, ap length is)) in inl (refl, refl, empty.0, empty.1)
     rest d rank body (t ∷ ts) is spread shown small =
         inr (record {
@@ -110,7 +111,7 @@ two_parts s base low high entries pages sheaf front back h e some =
             d = d;
             body = body;
             rank_is = λ lt. rank;
-            stubs_are = is;
+            slots_are = is;
             small = small;
             spread = spread_up d low high body t ts (sym is) spread;
             shown = shown;

@@ -67,7 +67,7 @@ same_itself s k = record {
   made = refl;
   retired = refl;
   failures = omega arith;
-  full_takes = omega arith;
+  failed_allocations = omega arith;
   counts = counts_same s s refl refl;
 }
 
@@ -80,7 +80,7 @@ same_trans a b c h g =
       made = g.made ∙ h.made;
       retired = g.retired ∙ h.retired;
       failures = omega (arith, h.failures, g.failures);
-      full_takes = omega (arith, h.full_takes, g.full_takes);
+      failed_allocations = omega (arith, h.failed_allocations, g.failed_allocations);
       counts = counts_trans a b c h.failures g.failures h.counts g.counts;
     }
 
@@ -95,7 +95,7 @@ frame_same old new h =
       made_on = ([], h.made);
       retired_on = ([], h.retired);
       failures = h.failures;
-      full_takes = h.full_takes;
+      failed_allocations = h.failed_allocations;
       counts = h.counts;
     }
 
@@ -112,7 +112,7 @@ frame_trans a b c h g =
       made_on = on_further a.made b.made c.made h.made_on g.made_on;
       retired_on = on_further a.retired b.retired c.retired h.retired_on g.retired_on;
       failures = omega (arith, h.failures, g.failures);
-      full_takes = omega (arith, h.full_takes, g.full_takes);
+      failed_allocations = omega (arith, h.failed_allocations, g.failed_allocations);
       counts = counts_trans a b c h.failures g.failures h.counts g.counts;
     }
 
@@ -144,7 +144,7 @@ links_kept old new g (page ∷ pages) bytes h = (h.0, g.kept page _ h.1, links_k
 
 pub shows_kept : (old new : Store) → Frame old new → (d : ℕ) (body : Body d) → Shows old d body → Shows new d body
 shows_kept old new g zero pairs h = each_map _ _ (λ x c long. links_kept old new g x.links x.value (c long)) pairs h
-shows_kept old new g (suc d) twigs h = each_map _ _ (λ w s. (g.kept w.page _ s.0, shows_kept old new g d w.body s.1)) twigs h
+shows_kept old new g (suc d) subtrees h = each_map _ _ (λ w s. (g.kept w.page _ s.0, shows_kept old new g d w.body s.1)) subtrees h
 
 pub part_kept : (old new : Store) → Frame old new → (page level d : ℕ) (low : List ℕ) (high : Option (List ℕ)) (body : Body d)
     → IsPart old page level d low high body → IsPart new page level d low high body
@@ -156,7 +156,7 @@ part_kept old new g page level d low high body p =
 pub cause_later : (old mid new : Store) (e : TreeFault) → Frame old mid → HasCause mid new e → HasCause old new e
 cause_later old mid new faults.Memory g h = tt
 cause_later old mid new faults.Device g h = omega (arith, g.failures)
-cause_later old mid new faults.Full g (inl h) = inl (omega (arith, g.full_takes))
+cause_later old mid new faults.Full g (inl h) = inl (omega (arith, g.failed_allocations))
 cause_later old mid new faults.Full g (inr h) = inr h
 cause_later old mid new faults.Kind g h = h
 cause_later old mid new faults.Number g h = h

@@ -2,10 +2,10 @@
 use Rattle.std.specs.Prelude.{◌≡◌, ℕ, ◌⊎◌, ◌≤◌, List, [], length, map, Option, Some, None, Result}
 use Rattle.std.specs.Prelude.{MatchResult}
 use Rattle.btree.specs.Keys.{Edit, Entry, times}
-use Rattle.btree.specs.Loose.{Stub, first_or}
+use Rattle.btree.specs.Loose.{Slot, first_or}
 use Rattle.btree.specs.Reach.{HasMap}
 use Rattle.btree.specs.Store.{HasCause, KeepsWord, Store}
-use Rattle.btree.specs.Turn.{AreTurned, IsHeld, IsUpTo, Sheaf}
+use Rattle.btree.specs.Turn.{AreTurned, IsHeld, IsUpTo, NodeModel}
 use Rattle.btree.specs.declared.pages.TreeFault.{TreeFault}
 use Rattle.btree.specs.declared.pages.TreeFault.TheVariants.{Full}
 
@@ -13,22 +13,23 @@ abbrev pub edit_keys : List Edit → List (List ℕ)
 edit_keys edits = map (λ e. e.key) edits
 
 pub record IsHeldBehind (s : Store) (base : ℕ) (between high : Option (List ℕ))
-    (entries : List Entry) (pages : List ℕ) (sheaf : Sheaf) : Type 0 where
+    (entries : List Entry) (pages : List ℕ) (model : NodeModel) : Type 0 where
   pub mid : List ℕ
   pub is : between ≡ Some mid
-  pub held : IsHeld s base mid high entries pages sheaf
+  pub held : IsHeld s base mid high entries pages model
   pub within : IsUpTo mid high
 
 -- What is behind a bound, if there is anything.
-abbrev pub IsBehind : Store → ℕ → Option (List ℕ) → Option (List ℕ) → List Entry → List ℕ → Sheaf
+abbrev pub IsBehind : Store → ℕ → Option (List ℕ) → Option (List ℕ) → List Entry → List ℕ
+    → NodeModel
     → Type 0
-IsBehind s base between high entries pages sheaf =
-    ((sheaf.stubs ≡ []) × (between ≡ high) × (entries ≡ []) × ((n : ℕ) → times n pages ≡ 0))
-    ⊎ IsHeldBehind s base between high entries pages sheaf
+IsBehind s base between high entries pages model =
+    ((model.slots ≡ []) × (between ≡ high) × (entries ≡ []) × ((n : ℕ) → times n pages ≡ 0))
+    ⊎ IsHeldBehind s base between high entries pages model
 
 -- The first child's key is the low bound, where there is an edit.
-abbrev pub BeginsAt : List ℕ → List Edit → List Stub → Type 0
-BeginsAt low edits stubs = (length edits ≡ 0) ⊎ (first_or None stubs ≡ Some low)
+abbrev pub BeginsAt : List ℕ → List Edit → List Slot → Type 0
+BeginsAt low edits slots = (length edits ≡ 0) ⊎ (first_or None slots ≡ Some low)
 
 -- a value put at a key, and a key removed
 abbrev pub put : List ℕ → List ℕ → Edit

@@ -2,13 +2,13 @@
 use Rattle.std.specs.Prelude.{◌≡◌, ℕ, suc, ◌+◌, ◌-◌, ◌*◌, ◌/◌, ◌^◌, ◌<◌, ◌≤◌, ◌⊎◌, leb, List}
 use Rattle.std.specs.Prelude.{length, take, Option, Some, None, Result, MatchResult, if◌then◌else◌}
 use Rattle.std.proofs.Common.{inl, inr}
-use Rattle.btree.specs.declared.loose.Loose.{Loose}
+use Rattle.btree.specs.declared.node.LooseNode.{LooseNode}
 use Rattle.btree.specs.declared.pages.TreeFault.{TreeFault}
 use Rattle.btree.specs.Keys.{Each, Edit, Entry}
-use Rattle.btree.specs.Loose.{IsChild, IsStub, Stub, stubs_size}
+use Rattle.btree.specs.Loose.{IsChild, IsSlot, Slot, slots_size}
 use Rattle.btree.specs.Reach.{HasMap}
 use Rattle.btree.specs.Store.{KeepsWord, Store}
-use Rattle.btree.specs.Turn.{Sheaf, sheaf_in}
+use Rattle.btree.specs.Turn.{NodeModel, model_in}
 
 -- ---- what the calls of a tree promise
 
@@ -56,133 +56,138 @@ edit_room e = put_room e.key e.value
 -- ---- what stands in no page
 
 -- Cells or children of this rank, of so many bytes at most. So many pages were made, at most.
-pub record IsFew (old new : Store) (rank bytes pages : ℕ) (sheaf : Sheaf) : Type 0 where
-  pub rank_is : sheaf.rank ≡ rank
-  pub small : Each IsStub sheaf.stubs
-  pub size : stubs_size sheaf.stubs ≤ bytes
+pub record IsFew (old new : Store) (rank bytes pages : ℕ) (model : NodeModel) : Type 0 where
+  pub rank_is : model.rank ≡ rank
+  pub small : Each IsSlot model.slots
+  pub size : slots_size model.slots ≤ bytes
   pub made : MakesUpTo old new pages
 
 -- that, or a fault by which no more were made
-abbrev pub EndsFew : Store → Store → ℕ → ℕ → ℕ → Result Loose TreeFault → Type 0
+abbrev pub EndsFew : Store → Store → ℕ → ℕ → ℕ → Result LooseNode TreeFault → Type 0
 EndsFew old new rank bytes pages result =
-    MatchResult result (λ loose. IsFew old new rank bytes pages (sheaf_in loose))
+    MatchResult result (λ node. IsFew old new rank bytes pages (model_in node))
     (λ e. MakesUpTo old new pages)
 
-abbrev pub GivesFew : Store → Store → ℕ → ℕ → ℕ → Result Loose TreeFault → Type 0
+abbrev pub GivesFew : Store → Store → ℕ → ℕ → ℕ → Result LooseNode TreeFault → Type 0
 GivesFew old new rank bytes pages result =
     KeepsWord new → EndsFew old new rank bytes pages result
 
 -- The same, or it was written to one page, and this stands for it above.
-abbrev pub IsFewOrOne : Store → Store → ℕ → ℕ → ℕ → Sheaf → Type 0
-IsFewOrOne old new rank bytes pages sheaf =
-    IsFew old new rank bytes pages sheaf ⊎ IsFew old new (rank + 1) 1360 (pages + 1) sheaf
+abbrev pub IsFewOrOne : Store → Store → ℕ → ℕ → ℕ → NodeModel → Type 0
+IsFewOrOne old new rank bytes pages model =
+    IsFew old new rank bytes pages model ⊎ IsFew old new (rank + 1) 1360 (pages + 1) model
 
 -- that, or a fault by which no more were made
-abbrev pub EndsFewOrOne : Store → Store → ℕ → ℕ → ℕ → Result Loose TreeFault → Type 0
+abbrev pub EndsFewOrOne : Store → Store → ℕ → ℕ → ℕ → Result LooseNode TreeFault → Type 0
 EndsFewOrOne old new rank bytes pages result =
-    MatchResult result (λ loose. IsFewOrOne old new rank bytes pages (sheaf_in loose))
+    MatchResult result (λ node. IsFewOrOne old new rank bytes pages (model_in node))
     (λ e. MakesUpTo old new (pages + 1))
 
-abbrev pub GivesFewOrOne : Store → Store → ℕ → ℕ → ℕ → Result Loose TreeFault → Type 0
+abbrev pub GivesFewOrOne : Store → Store → ℕ → ℕ → ℕ → Result LooseNode TreeFault → Type 0
 GivesFewOrOne old new rank bytes pages result =
     KeepsWord new → EndsFewOrOne old new rank bytes pages result
 
 -- One child was taken off, and what stood in its page.
-pub record AreFewOff (old new : Store) (stubs : List Stub) (others opened : Sheaf) : Type 0 where
-  pub small : Each IsStub others.stubs
-  pub size : stubs_size others.stubs ≤ stubs_size stubs
-  pub opened_small : Each IsStub opened.stubs
-  pub opened_size : stubs_size opened.stubs ≤ 5440
-  pub made : MakesUpTo old new 0
+pub record AreFewOff (old new : Store) (slots : List Slot) (others opened : NodeModel) : Type 0
+  where
+    pub small : Each IsSlot others.slots
+    pub size : slots_size others.slots ≤ slots_size slots
+    pub opened_small : Each IsSlot opened.slots
+    pub opened_size : slots_size opened.slots ≤ 5440
+    pub made : MakesUpTo old new 0
 
-abbrev pub IsLittle : ℕ → Sheaf → Type 0
-IsLittle bytes sheaf = Each IsStub sheaf.stubs × (stubs_size sheaf.stubs ≤ bytes)
+abbrev pub IsLittle : ℕ → NodeModel → Type 0
+IsLittle bytes model = Each IsSlot model.slots × (slots_size model.slots ≤ bytes)
 
-abbrev pub IsOneChild : List Stub → Type 0
-IsOneChild stubs = (length stubs ≡ 1) × Each (λ s. IsChild s.load) stubs
+abbrev pub IsOneChild : List Slot → Type 0
+IsOneChild slots = (length slots ≡ 1) × Each (λ s. IsChild s.load) slots
 
 -- What stands at one height goes together with no page made. What stands one level below the other,
 -- and has so many bytes at most, makes four pages at most.
-pub record AreFewJoined (old new : Store) (bytes : ℕ) (left right both : Sheaf) : Type 0 where
+pub record AreFewJoined (old new : Store) (bytes : ℕ) (left right both : NodeModel) : Type 0 where
   pub level : left.rank ≡ right.rank
-      → IsFew old new left.rank (stubs_size left.stubs + stubs_size right.stubs) 0 both
-  pub behind : left.rank ≡ right.rank + 1 → 0 < length left.stubs → stubs_size right.stubs ≤ bytes
-      → IsFew old new left.rank (stubs_size left.stubs + 5440) 4 both
-  pub before : left.rank + 1 ≡ right.rank → 0 < length right.stubs → stubs_size left.stubs ≤ bytes
-      → IsFew old new right.rank (stubs_size right.stubs + 5440) 4 both
+      → IsFew old new left.rank (slots_size left.slots + slots_size right.slots) 0 both
+  pub behind : left.rank ≡ right.rank + 1 → 0 < length left.slots → slots_size right.slots ≤ bytes
+      → IsFew old new left.rank (slots_size left.slots + 5440) 4 both
+  pub before : left.rank + 1 ≡ right.rank → 0 < length right.slots → slots_size left.slots ≤ bytes
+      → IsFew old new right.rank (slots_size right.slots + 5440) 4 both
 
 -- No more were made where they weren't joined.
-pub record AreNotJoined (old new : Store) (bytes : ℕ) (left right : Sheaf) : Type 0 where
+pub record AreNotJoined (old new : Store) (bytes : ℕ) (left right : NodeModel) : Type 0 where
   pub level : left.rank ≡ right.rank → MakesUpTo old new 0
-  pub behind : left.rank ≡ right.rank + 1 → 0 < length left.stubs → stubs_size right.stubs ≤ bytes
+  pub behind : left.rank ≡ right.rank + 1 → 0 < length left.slots → slots_size right.slots ≤ bytes
       → MakesUpTo old new 4
-  pub before : left.rank + 1 ≡ right.rank → 0 < length right.stubs → stubs_size left.stubs ≤ bytes
+  pub before : left.rank + 1 ≡ right.rank → 0 < length right.slots → slots_size left.slots ≤ bytes
       → MakesUpTo old new 4
 
-abbrev pub EndsJoined : ℕ → Store → Store → Sheaf → Sheaf → Result Loose TreeFault → Type 0
+abbrev pub EndsJoined : ℕ → Store → Store → NodeModel → NodeModel → Result LooseNode TreeFault
+    → Type 0
 EndsJoined bytes old new left right result =
-    MatchResult result (λ both. AreFewJoined old new bytes left right (sheaf_in both))
+    MatchResult result (λ both. AreFewJoined old new bytes left right (model_in both))
     (λ e. AreNotJoined old new bytes left right)
 
-abbrev pub JoinsFew : ℕ → Store → Store → Sheaf → Sheaf → Result Loose TreeFault → Type 0
+abbrev pub JoinsFew : ℕ → Store → Store → NodeModel → NodeModel → Result LooseNode TreeFault
+    → Type 0
 JoinsFew bytes old new left right result =
-    KeepsWord new → Each IsStub left.stubs → Each IsStub right.stubs
+    KeepsWord new → Each IsSlot left.slots → Each IsSlot right.slots
     → EndsJoined bytes old new left right result
 
 -- What was below one child stands between its neighbours again. At their height it goes together
 -- with them, with no page made; one level below them, it makes four pages at most.
-pub record AreFewSettled (old new : Store) (left below right both : Sheaf) : Type 0 where
+pub record AreFewSettled (old new : Store) (left below right both : NodeModel) : Type 0 where
   pub level : left.rank ≡ right.rank → below.rank ≡ left.rank → IsFew old new left.rank
-      (stubs_size left.stubs + (stubs_size below.stubs + stubs_size right.stubs)) 0 both
+      (slots_size left.slots + (slots_size below.slots + slots_size right.slots)) 0 both
   pub lower : left.rank ≡ right.rank → below.rank + 1 ≡ left.rank
-      → 0 < length left.stubs + length right.stubs → stubs_size below.stubs ≤ 10880
-      → IsFew old new left.rank (stubs_size left.stubs + (stubs_size right.stubs + 5440)) 4 both
+      → 0 < length left.slots + length right.slots → slots_size below.slots ≤ 10880
+      → IsFew old new left.rank (slots_size left.slots + (slots_size right.slots + 5440)) 4 both
 
 -- No more were made where it doesn't stand there.
-pub record AreNotSettled (old new : Store) (left below right : Sheaf) : Type 0 where
+pub record AreNotSettled (old new : Store) (left below right : NodeModel) : Type 0 where
   pub level : left.rank ≡ right.rank → below.rank ≡ left.rank → MakesUpTo old new 0
   pub lower : left.rank ≡ right.rank → below.rank + 1 ≡ left.rank
-      → 0 < length left.stubs + length right.stubs → stubs_size below.stubs ≤ 10880
+      → 0 < length left.slots + length right.slots → slots_size below.slots ≤ 10880
       → MakesUpTo old new 4
 
-abbrev pub EndsSettled : Store → Store → Sheaf → Sheaf → Sheaf → Result Loose TreeFault → Type 0
+abbrev pub EndsSettled : Store → Store → NodeModel → NodeModel → NodeModel
+    → Result LooseNode TreeFault → Type 0
 EndsSettled old new left below right result =
-    MatchResult result (λ both. AreFewSettled old new left below right (sheaf_in both))
+    MatchResult result (λ both. AreFewSettled old new left below right (model_in both))
     (λ e. AreNotSettled old new left below right)
 
-abbrev pub SettlesFew : Store → Store → Sheaf → Sheaf → Sheaf → Result Loose TreeFault → Type 0
+abbrev pub SettlesFew : Store → Store → NodeModel → NodeModel → NodeModel
+    → Result LooseNode TreeFault → Type 0
 SettlesFew old new left below right result =
-    KeepsWord new → Each IsStub left.stubs → Each IsStub below.stubs → Each IsStub right.stubs
+    KeepsWord new → Each IsSlot left.slots → Each IsSlot below.slots → Each IsSlot right.slots
     → EndsSettled old new left below right result
 
 -- A part in front is all that there is, or it takes two thirds of a page, or a third where one page
 -- more has room for the rest.
-abbrev pub IsFullPart : List Stub → ℕ → Type 0
-IsFullPart stubs at = (length stubs ≤ at)
-    ⊎ ((4080 < stubs_size stubs)
-    × ((2720 ≤ stubs_size (take at stubs))
-    ⊎ ((1360 ≤ stubs_size (take at stubs)) × (stubs_size stubs ≤ 5440))))
+abbrev pub IsFullPart : List Slot → ℕ → Type 0
+IsFullPart slots at = (length slots ≤ at)
+    ⊎ ((4080 < slots_size slots)
+    × ((2720 ≤ slots_size (take at slots))
+    ⊎ ((1360 ≤ slots_size (take at slots)) × (slots_size slots ≤ 5440))))
 
 -- One page was made, and this stands for it.
-pub record IsOnePage (old new : Store) (stubs : List Stub) (above : Stub) : Type 0 where
+pub record IsOnePage (old new : Store) (slots : List Slot) (above : Slot) : Type 0 where
   pub made : length new.made ≡ length old.made + 1
   pub child : IsChild above.load
-  pub small : Each IsStub stubs → IsStub above
+  pub small : Each IsSlot slots → IsSlot above
 
 -- Of so many bytes no more pages were written than 2,720 for each but one make.
 abbrev pub WritesUpTo : Store → Store → ℕ → Type 0
 WritesUpTo old new bytes = 2720 * length new.made ≤ 2720 * length old.made + (bytes + 2719)
 
 -- These pages were written of so many bytes: more than 2,720 for each but one.
-pub record AreFewPages (old new : Store) (bytes : ℕ) (above : List Stub) : Type 0 where
+pub record AreFewPages (old new : Store) (bytes : ℕ) (above : List Slot) : Type 0 where
   pub made : length new.made ≡ length old.made + length above
   pub few : 2720 * length above ≤ bytes + 2719
   pub children : Each (λ s. IsChild s.load) above
-  pub small : Each IsStub above
+  pub small : Each IsSlot above
 
 -- What is left to write up to the root has 2,720 bytes, doubled so often; with what was made it
 -- takes so many pages at most.
-pub record IsFewTop (old new : Store) (most : ℕ) (top : Sheaf) : Type 0 where
+pub record IsFewTop (old new : Store) (most : ℕ) (top : NodeModel) : Type 0 where
   pub halvings : ℕ
   pub pages : ℕ
   pub little : IsLittle (2720 * 2 ^ halvings) top
@@ -190,6 +195,6 @@ pub record IsFewTop (old new : Store) (most : ℕ) (top : Sheaf) : Type 0 where
   pub enough : pages + (2 * 2 ^ halvings - 1) ≤ most
 
 -- that, or a fault by which no more were made
-abbrev pub EndsTop : Store → Store → ℕ → Result Loose TreeFault → Type 0
-EndsTop old new most result = MatchResult result (λ top. IsFewTop old new most (sheaf_in top))
+abbrev pub EndsTop : Store → Store → ℕ → Result LooseNode TreeFault → Type 0
+EndsTop old new most result = MatchResult result (λ top. IsFewTop old new most (model_in top))
     (λ e. MakesUpTo old new most)

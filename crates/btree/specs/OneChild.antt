@@ -1,33 +1,35 @@
 -- A branch of which one child changes.
 use Rattle.std.specs.Prelude.{◌≡◌, ℕ, ◌+◌, ◌<◌, ◌≤◌, List, [], ◌∷◌, ◌++◌, length, map, Option, Some}
 use Rattle.std.specs.Prelude.{slice_index_or, take, drop}
-use Rattle.page.specs.Content.{Arm}
+use Rattle.page.specs.Content.{Pivot}
 use Rattle.btree.specs.Change.{IsBehind}
 use Rattle.btree.specs.Keys.{Each, Edit, Entry, IsNotUnder, IsUnder, IsWithin, times}
-use Rattle.btree.specs.Loose.{Load, Stub, arm_stub, child, under_key}
+use Rattle.btree.specs.Loose.{Load, Slot, pivot_slot, child, under_key}
 use Rattle.btree.specs.Store.{Store}
-use Rattle.btree.specs.Turn.{IsHeld, IsUpTo, Sheaf}
+use Rattle.btree.specs.Turn.{IsHeld, IsUpTo, NodeModel}
 
 -- All edits belong to the child at this place.
-pub record AreAt (arms : List Arm) (edits : List Edit) (at : ℕ) : Type 0 where
-  pub within : at < length arms
-  pub over : (d : Arm) → 0 < at → Each (λ e. IsNotUnder e.key (slice_index_or arms at d).key) edits
-  pub under : (d : Arm) → at + 1 < length arms
-      → Each (λ e. IsUnder e.key (slice_index_or arms (at + 1) d).key) edits
+pub record AreAt (pivots : List Pivot) (edits : List Edit) (at : ℕ) : Type 0 where
+  pub within : at < length pivots
+  pub over : (d : Pivot) → 0 < at → Each (λ e. IsNotUnder e.key (slice_index_or pivots at d).key)
+      edits
+  pub under : (d : Pivot) → at + 1 < length pivots
+      → Each (λ e. IsUnder e.key (slice_index_or pivots (at + 1) d).key) edits
 
 -- one child at this height, and its page
-pub record IsPageOf (rank page : ℕ) (sheaf : Sheaf) : Type 0 where
-  pub stub : Stub
-  pub rank_is : sheaf.rank ≡ rank
-  pub stubs_are : sheaf.stubs ≡ stub ∷ []
-  pub load : stub.load ≡ child page
+pub record IsPageOf (rank page : ℕ) (model : NodeModel) : Type 0 where
+  pub slot : Slot
+  pub rank_is : model.rank ≡ rank
+  pub slots_are : model.slots ≡ slot ∷ []
+  pub load : slot.load ≡ child page
 
 -- What stood below one child has changed, and the children before it and behind it are still those
 -- of the branch.
-pub record IsAmid (s : Store) (base : ℕ) (low : List ℕ) (high : Option (List ℕ)) (arms : List Arm)
-    (at rank : ℕ) (entries : List Entry) (reached : List ℕ) (below : Sheaf) : Type 0 where
-  pub left : List Stub
-  pub right : List Stub
+pub record IsAmid (s : Store) (base : ℕ) (low : List ℕ) (high : Option (List ℕ))
+    (pivots : List Pivot)
+    (at rank : ℕ) (entries : List Entry) (reached : List ℕ) (below : NodeModel) : Type 0 where
+  pub left : List Slot
+  pub right : List Slot
   pub key : List ℕ
   pub load : Load
   pub between : Option (List ℕ)
@@ -37,31 +39,32 @@ pub record IsAmid (s : Store) (base : ℕ) (low : List ℕ) (high : Option (List
   pub front_pages : List ℕ
   pub mid_pages : List ℕ
   pub back_pages : List ℕ
-  pub parts : map arm_stub (under_key low arms) ≡ (left ++ record { key = key; load = load } ∷ [])
+  pub parts : map pivot_slot (under_key low pivots)
+      ≡ (left ++ record { key = key; load = load } ∷ [])
       ++ right
   pub place : length left ≡ at
   pub entries_are : front_entries ++ (mid_entries ++ back_entries) ≡ entries
   pub pages_are : (n : ℕ)
       → times n front_pages + (times n mid_pages + times n back_pages) ≡ times n reached
   pub left_held : IsHeld s base low (Some key) front_entries front_pages
-      (record { rank = rank; stubs = left })
+      (record { rank = rank; slots = left })
   pub held : IsHeld s base key between mid_entries mid_pages below
   pub behind : IsBehind s base between high back_entries back_pages
-      (record { rank = rank; stubs = right })
+      (record { rank = rank; slots = right })
   pub over : IsNotUnder key low
   pub inside : IsWithin between key
   pub within : IsUpTo key high
   pub little : 6 + length key ≤ 1360
 
 -- the cells or children from one place to below another
-abbrev pub stubs_between : ℕ → ℕ → List Stub → List Stub
-stubs_between from to stubs = drop from (take to stubs)
+abbrev pub slots_between : ℕ → ℕ → List Slot → List Slot
+slots_between from to slots = drop from (take to slots)
 
 -- What stood below the children from one place to below another has changed, and those before them
 -- and behind them are still those of the branch.
 pub record IsAround (s : Store) (base : ℕ) (low : List ℕ) (high : Option (List ℕ))
-    (stubs : List Stub) (from to rank : ℕ) (entries : List Entry) (reached : List ℕ)
-    (amid : Sheaf) : Type 0 where
+    (slots : List Slot) (from to rank : ℕ) (entries : List Entry) (reached : List ℕ)
+    (amid : NodeModel) : Type 0 where
   pub key : List ℕ
   pub between : Option (List ℕ)
   pub front_entries : List Entry
@@ -74,10 +77,10 @@ pub record IsAround (s : Store) (base : ℕ) (low : List ℕ) (high : Option (Li
   pub pages_are : (n : ℕ)
       → times n front_pages + (times n mid_pages + times n back_pages) ≡ times n reached
   pub front_held : IsHeld s base low (Some key) front_entries front_pages
-      (record { rank = rank; stubs = take from stubs })
+      (record { rank = rank; slots = take from slots })
   pub held : IsHeld s base key between mid_entries mid_pages amid
   pub behind : IsBehind s base between high back_entries back_pages
-      (record { rank = rank; stubs = drop to stubs })
+      (record { rank = rank; slots = drop to slots })
   pub over : IsNotUnder key low
   pub inside : IsUpTo key between
   pub within : IsUpTo key high

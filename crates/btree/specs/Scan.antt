@@ -12,8 +12,8 @@ abbrev pub entry_in : KeptEntry → Entry
 entry_in e = record { key = e.key.items; value = e.value.items }
 
 -- these entries, and those of the range among them
-abbrev pub Holds : ℕ → List Entry → Batch → Type 0
-Holds limit all batch =
+abbrev pub HoldsBatch : ℕ → List Entry → Batch → Type 0
+HoldsBatch limit all batch =
     IsBatch limit all (map entry_in batch.entries.items) (option_map (λ v. v.items) batch.next)
 
 abbrev pub within : Range → List Entry → List Entry
@@ -21,7 +21,7 @@ within range entries = window range.from.now (option_map (λ b. b.now) range.to)
 
 -- what entries make of a batch that was empty
 abbrev pub Fills : Filling → List Entry → Filling → Type 0
-Fills start all now = (now.limit ≡ start.limit) × Holds now.limit all now.batch
+Fills start all now = (now.limit ≡ start.limit) × HoldsBatch now.limit all now.batch
 
 -- there is room for another entry
 abbrev pub HasRoom : Filling → Type 0

@@ -2,8 +2,8 @@
 use Rattle.std.specs.Prelude.{◌≡◌, ℕ, ◌+◌, ◌<◌, ◌≤◌, ⊤, List, [], ◌∷◌, ◌++◌, length, Option, Some}
 use Rattle.std.specs.Prelude.{slice_index_or}
 use Rattle.btree.specs.Keys.{Each, IsUnder, IsNotUnder, IsBetween, IsWithin, IsPast}
-use Rattle.page.specs.Content.{Item, Arm, Content, leaf, branch, chain, free_list, item_keys}
-use Rattle.page.specs.Content.{arm_keys}
+use Rattle.page.specs.Content.{Item, Pivot, Content, leaf, branch, chain, free_list, item_keys}
+use Rattle.page.specs.Content.{pivot_keys}
 
 -- what stands before this place is below the key, and what stands at it isn't
 pub record IsPlace (items : List Item) (key : List ℕ) (at : ℕ) : Type 0 where
@@ -28,27 +28,29 @@ pub record IsGap (items : List Item) (key : List ℕ) (at : ℕ) : Type 0 where
 
 -- what stands at this place isn't above the key, unless it is the first, and what stands behind it
 -- is
-pub record IsChildPlace (arms : List Arm) (key : List ℕ) (at : ℕ) : Type 0 where
-  pub within : at < length arms
-  pub below : (d : Arm) → 0 < at → IsNotUnder key (slice_index_or arms at d).key
-  pub above : (d : Arm) → at + 1 < length arms → IsUnder key (slice_index_or arms (at + 1) d).key
+pub record IsChildPlace (pivots : List Pivot) (key : List ℕ) (at : ℕ) : Type 0 where
+  pub within : at < length pivots
+  pub below : (d : Pivot) → 0 < at → IsNotUnder key (slice_index_or pivots at d).key
+  pub above : (d : Pivot) → at + 1 < length pivots
+      → IsUnder key (slice_index_or pivots (at + 1) d).key
 
 -- the bounds of the child at this place
-pub record AreBounds (low : List ℕ) (high : Option (List ℕ)) (arms : List Arm) (at : ℕ)
+pub record AreBounds (low : List ℕ) (high : Option (List ℕ)) (pivots : List Pivot) (at : ℕ)
     (from : List ℕ) (to : Option (List ℕ)) : Type 0 where
   pub first : at ≡ 0 → from ≡ low
-  pub later : (d : Arm) → 0 < at → from ≡ (slice_index_or arms at d).key
-  pub last : length arms ≤ at + 1 → to ≡ high
-  pub inner : (d : Arm) → at + 1 < length arms → to ≡ Some (slice_index_or arms (at + 1) d).key
+  pub later : (d : Pivot) → 0 < at → from ≡ (slice_index_or pivots at d).key
+  pub last : length pivots ≤ at + 1 → to ≡ high
+  pub inner : (d : Pivot) → at + 1 < length pivots
+      → to ≡ Some (slice_index_or pivots (at + 1) d).key
 
 -- the keys of the children behind the first
-abbrev pub later_keys : List Arm → List (List ℕ)
+abbrev pub later_keys : List Pivot → List (List ℕ)
 later_keys [] = []
-later_keys (arm ∷ arms) = arm_keys arms
+later_keys (pivot ∷ pivots) = pivot_keys pivots
 
 -- the keys of a page lie between the bounds
 abbrev pub LieBetween : List ℕ → Option (List ℕ) → Content → Type 0
 LieBetween low high (leaf items) = Each (IsBetween low high) (item_keys items)
-LieBetween low high (branch arms) = Each (IsBetween low high) (later_keys arms)
+LieBetween low high (branch pivots) = Each (IsBetween low high) (later_keys pivots)
 LieBetween low high (chain next bytes) = ⊤
 LieBetween low high (free_list next pages) = ⊤

@@ -19,7 +19,7 @@ pub record Store : Type 0 where
   pub live : ℕ → Bool
   pub made : List ℕ
   pub retired : List ℕ
-  pub full_takes : ℕ
+  pub failed_allocations : ℕ
   pub failed_reads : ℕ
 
 -- that of pages which no device keeps
@@ -68,7 +68,7 @@ pub record Frame (old new : Store) : Type 0 where
   pub made_on : (more : List ℕ) × (new.made ≡ more ++ old.made)
   pub retired_on : (more : List ℕ) × (new.retired ≡ more ++ old.retired)
   pub failures : old.history.failures ≤ new.history.failures
-  pub full_takes : old.full_takes ≤ new.full_takes
+  pub failed_allocations : old.failed_allocations ≤ new.failed_allocations
   pub counts : CountsReads old new
 
 pub record Grows (old new : Store) : Type 0 where
@@ -77,7 +77,8 @@ pub record Grows (old new : Store) : Type 0 where
 
 -- A page was asked for and none was free: their count grew, or is the greatest that a u64 can tell.
 abbrev pub HasNoPage : Store → Store → Type 0
-HasNoPage old new = (old.full_takes < new.full_takes) ⊎ (new.full_takes ≡ 18446744073709551615)
+HasNoPage old new = (old.failed_allocations < new.failed_allocations)
+    ⊎ (new.failed_allocations ≡ 18446744073709551615)
 
 -- A fault has its cause: the device failed, or no page was free, or memory ran out. The others are
 -- those of pages that are no tree.
@@ -98,7 +99,7 @@ pub record IsSame (old new : Store) : Type 0 where
   pub made : new.made ≡ old.made
   pub retired : new.retired ≡ old.retired
   pub failures : old.history.failures ≤ new.history.failures
-  pub full_takes : old.full_takes ≤ new.full_takes
+  pub failed_allocations : old.failed_allocations ≤ new.failed_allocations
   pub counts : CountsReads old new
 
 -- nothing has changed, and the fault has its cause

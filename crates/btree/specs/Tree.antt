@@ -7,25 +7,25 @@ use Rattle.std.specs.Prelude.{◌≡◌, ℕ, zero, suc, ◌<◌, ⊤, List, [],
 use Rattle.std.specs.Prelude.{Option, Some, None}
 use Rattle.std.specs.List.{flat_map}
 use Rattle.btree.specs.Keys.{Pair, Entry, entry_of, Each, Rises, IsWithin, IsBetween}
-use Rattle.page.specs.Content.{Place, inline, spilled, Item, Arm, Content, leaf, branch, chain}
+use Rattle.page.specs.Content.{Place, inline, spilled, Item, Pivot, Content, leaf, branch, chain}
 use Rattle.page.specs.Content.{IsLeaf, IsBranch}
 use Rattle.btree.specs.Store.{Store, IsAt}
 
 -- a child with its low key and its page
-pub record Twig (B : Type 0) : Type 0 where
+pub record Subtree (B : Type 0) : Type 0 where
   pub key : List ℕ
   pub page : ℕ
   pub body : B
 
 abbrev pub Body : ℕ → Type 0
 Body zero = List Pair
-Body (suc d) = List (Twig (Body d))
+Body (suc d) = List (Subtree (Body d))
 
 -- ---- the pairs, in order
 
 abbrev pub pairs_of : (d : ℕ) → Body d → List Pair
 pairs_of zero pairs = pairs
-pairs_of (suc d) twigs = flat_map (λ w. pairs_of d w.body) twigs
+pairs_of (suc d) subtrees = flat_map (λ w. pairs_of d w.body) subtrees
 
 abbrev pub entries_of : (d : ℕ) → Body d → List Entry
 entries_of d body = map entry_of (pairs_of d body)
@@ -33,7 +33,7 @@ entries_of d body = map entry_of (pairs_of d body)
 -- the pages below, those of the values' chains among them
 abbrev pub pages_of : (d : ℕ) → Body d → List ℕ
 pages_of zero pairs = flat_map (λ x. x.links) pairs
-pages_of (suc d) twigs = flat_map (λ w. w.page ∷ pages_of d w.body) twigs
+pages_of (suc d) subtrees = flat_map (λ w. w.page ∷ pages_of d w.body) subtrees
 
 -- ---- the page that holds a body
 
@@ -44,48 +44,49 @@ place_of (page ∷ pages) value = spilled (length value) page
 abbrev pub item_of : Pair → Item
 item_of x = record { key = x.key; place = place_of x.links x.value }
 
-abbrev pub arm_of : {B : Type 0} → Twig B → Arm
-arm_of w = record { key = w.key; child = w.page }
+abbrev pub pivot_of : {B : Type 0} → Subtree B → Pivot
+pivot_of w = record { key = w.key; child = w.page }
 
 abbrev pub content_of : (d : ℕ) → Body d → Content
 content_of zero pairs = leaf (map item_of pairs)
-content_of (suc d) twigs = branch (map arm_of twigs)
+content_of (suc d) subtrees = branch (map pivot_of subtrees)
 
 -- ---- order
 
-abbrev pub high_of : {B : Type 0} → Option (List ℕ) → List (Twig B) → Option (List ℕ)
+abbrev pub high_of : {B : Type 0} → Option (List ℕ) → List (Subtree B) → Option (List ℕ)
 high_of high [] = high
 high_of high (w ∷ ws) = Some w.key
 
 -- each child lies from its own key up to the next child's
 abbrev pub IsFan : {B : Type 0} → (List ℕ → Option (List ℕ) → B → Type 0) → Option (List ℕ)
-    → List (Twig B) → Type 0
+    → List (Subtree B) → Type 0
 IsFan Lies high [] = ⊤
 IsFan Lies high (w ∷ ws) = Lies w.key (high_of high ws) w.body × IsFan Lies high ws
 
 -- the first child lies from the low bound on
-abbrev pub with_low : {B : Type 0} → List ℕ → List (Twig B) → List (Twig B)
+abbrev pub with_low : {B : Type 0} → List ℕ → List (Subtree B) → List (Subtree B)
 with_low low [] = []
 with_low low (w ∷ ws) = record { key = low; page = w.page; body = w.body } ∷ ws
 
 -- the content of a page of the tree
 abbrev pub IsWhole : (d : ℕ) → Body d → Type 0
 IsWhole zero pairs = IsLeaf (map item_of pairs)
-IsWhole (suc d) twigs = IsBranch (map arm_of twigs)
+IsWhole (suc d) subtrees = IsBranch (map pivot_of subtrees)
 
 abbrev pub pair_keys : List Pair → List (List ℕ)
 pair_keys pairs = map (λ x. x.key) pairs
 
-abbrev pub twig_keys : {B : Type 0} → List (Twig B) → List (List ℕ)
-twig_keys twigs = map (λ w. w.key) twigs
+abbrev pub subtree_keys : {B : Type 0} → List (Subtree B) → List (List ℕ)
+subtree_keys subtrees = map (λ w. w.key) subtrees
 
 -- keys rise strictly and lie between the bounds, and the pages below are whole
 abbrev pub IsSound : (d : ℕ) → List ℕ → Option (List ℕ) → Body d → Type 0
 IsSound zero low high pairs = Rises (pair_keys pairs) × Each (IsBetween low high) (pair_keys pairs)
-IsSound (suc d) low high twigs =
-    let ws = with_low low twigs in
-    IsFan (λ from to body. IsWhole d body × IsSound d from to body) high ws × Rises (twig_keys ws)
-    × Each (IsWithin high) (twig_keys ws)
+IsSound (suc d) low high subtrees =
+    let ws = with_low low subtrees in
+    IsFan (λ from to body. IsWhole d body × IsSound d from to body) high ws × Rises
+    (subtree_keys ws)
+    × Each (IsWithin high) (subtree_keys ws)
 
 -- ---- a store holds the pages below a body
 
@@ -104,7 +105,8 @@ HasChain s x = 0 < length x.links → HasLinks s x.links x.value
 
 abbrev pub Shows : Store → (d : ℕ) → Body d → Type 0
 Shows s zero pairs = Each (HasChain s) pairs
-Shows s (suc d) twigs = Each (λ w. IsAt s w.page (content_of d w.body) × Shows s d w.body) twigs
+Shows s (suc d) subtrees = Each (λ w. IsAt s w.page (content_of d w.body) × Shows s d w.body)
+    subtrees
 
 -- ---- a whole tree
 

@@ -25,7 +25,7 @@ pub(crate) fn chain_bytes<P: Pages>(
     ensures grows { Grows (P.store pages.old) (P.store pages.new) }
     ensures same { KeepsWord (P.store pages.new)
         → IsSame (P.store pages.old) (P.store pages.new) }
-    ensures takes { (P.store pages.new).full_takes ≡ (P.store pages.old).full_takes }
+    ensures takes { (P.store pages.new).failed_allocations ≡ (P.store pages.old).failed_allocations }
     ensures full { IfErr result IsNotFull }
     ensures reads { (links value : List ℕ) → HasLinks (P.store pages.old) links value
         → next_of links ≡ first
@@ -62,7 +62,7 @@ pub(crate) fn value_bytes<P: Pages>(
     ensures grows { Grows (P.store pages.old) (P.store pages.new) }
     ensures same { KeepsWord (P.store pages.new)
         → IsSame (P.store pages.old) (P.store pages.new) }
-    ensures takes { (P.store pages.new).full_takes ≡ (P.store pages.old).full_takes }
+    ensures takes { (P.store pages.new).failed_allocations ≡ (P.store pages.old).failed_allocations }
     ensures full { IfErr result IsNotFull }
     ensures reads { (x : Pair) → place_in stored.entry ≡ place_of x.links x.value
         → HasChain (P.store pages.old) x
@@ -100,7 +100,7 @@ pub(crate) fn write_chain<P: Pages>(
         let start = (left - 1) * LINK;
         let end = value.len().min(start + LINK);
         let bytes = Vec::from_slice(alloc, &value[start..end])?;
-        next = pages.fresh(PageContent::Chain { next, bytes })?;
+        next = pages.allocate(PageContent::Chain { next, bytes })?;
         left -= 1;
     }
     Ok(next)

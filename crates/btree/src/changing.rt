@@ -5,22 +5,22 @@ ghost use Rattle.btree.specs.Change.{BeginsAt, edit_keys};
 ghost use Rattle.btree.specs.EditView.{HasRoom, edit_in};
 ghost use Rattle.btree.specs.Few.{IsFew, IsFewOrOne, IsLittle, GivesFew, GivesFewOrOne, edit_pages};
 ghost use Rattle.btree.specs.Keys.{Each, Entry, IsBetween, IsNotUnder, IsUnder, Pair, Rises, change, entry_of, sum_of};
-ghost use Rattle.btree.specs.Loose.{Stub, arm_stub, first_or, stubs_size, under_key};
-ghost use Rattle.btree.specs.LooseView.{stub_in};
-ghost use Rattle.btree.specs.OneChild.{AreAt, IsAmid, IsAround, stubs_between};
+ghost use Rattle.btree.specs.Loose.{Slot, pivot_slot, first_or, slots_size, under_key};
+ghost use Rattle.btree.specs.LooseView.{slot_in};
+ghost use Rattle.btree.specs.OneChild.{AreAt, IsAmid, IsAround, slots_between};
 ghost use Rattle.btree.specs.Store.{Grows, IsAt, Store};
 ghost use Rattle.btree.specs.Tree.{Body, IsSound, IsWhole, Shows, content_of, entries_of, item_of, pages_of};
-ghost use Rattle.btree.specs.Turn.{IsHeld, IsUpTo, Turns, sheaf_in};
+ghost use Rattle.btree.specs.Turn.{IsHeld, IsUpTo, Turns, model_in};
 ghost use Rattle.btree.specs.declared.pages.TreeFault.TheVariants.{Memory};
 
 use crate::editing::{Edit, edit_cells};
 use crate::in_page::{edit_page, has_room, write_leaf};
 use crate::joining::QUARTER;
-use crate::loose::{Loose, Unit, page_below, units_of_cells};
+use crate::node::{LooseNode, LooseSlot, loose_slots_of_cells, page_below};
 use crate::one_child::{
     child_of_all, go_between, page_of_one, place_behind, write_between, write_branch,
 };
-use crate::opening::{children_between, leaf_cells, units_of_branch};
+use crate::opening::{children_between, leaf_cells, loose_slots_of_branch};
 use crate::search::{branch_child, leaf_key, low_bound};
 use crate::settling::settle;
 use crate::{Pages, TreeFault};
@@ -61,17 +61,17 @@ fn edits_at<'s, 'a>(edits: &'s [Edit<'a>], key: &[u8]) -> (&'s [Edit<'a>], &'s [
 }
 
 // The last child whose key isn't above this one, or the first child.
-fn child_place(units: &[Unit], key: &[u8]) -> usize
-    requires { 0 < length units.now }
-    ensures within { result < length units.now }
-    ensures next { (s : Stub) → result + 1 < length units.now
-        → IsUnder key.now (slice_index_or (map stub_in units.now) (result + 1) s).key }
-    ensures here { (s : Stub) → 0 < result
-        → IsNotUnder key.now (slice_index_or (map stub_in units.now) result s).key }
+fn child_place(loose_slots: &[LooseSlot], key: &[u8]) -> usize
+    requires { 0 < length loose_slots.now }
+    ensures within { result < length loose_slots.now }
+    ensures next { (s : Slot) → result + 1 < length loose_slots.now
+        → IsUnder key.now (slice_index_or (map slot_in loose_slots.now) (result + 1) s).key }
+    ensures here { (s : Slot) → 0 < result
+        → IsNotUnder key.now (slice_index_or (map slot_in loose_slots.now) result s).key }
 {
-    let mut at = units.len() - 1;
+    let mut at = loose_slots.len() - 1;
     while at > 0 {
-        match compare_keys(key, units[at].key.as_slice()) {
+        match compare_keys(key, loose_slots[at].key.as_slice()) {
             Ordering::Less => at -= 1,
             _ => return at,
         }
@@ -81,40 +81,44 @@ fn child_place(units: &[Unit], key: &[u8]) -> usize
 
 /// What stands before a child, the child, and what stands behind it.
 struct Parted {
-    left: Loose,
-    unit: Unit,
-    right: Loose,
+    left: LooseNode,
+    loose_slot: LooseSlot,
+    right: LooseNode,
 }
 
 // Takes a child out from among its neighbours.
-fn part_at(loose: Loose, at: usize) -> Result<Parted, TreeFault>
-    requires { at < length loose.units.items }
-    ensures left { IfOk result (λ p. length p.left.units.items ≡ at) }
-    ensures left_rank { IfOk result (λ p. p.left.rank ≡ loose.rank) }
-    ensures right_rank { IfOk result (λ p. p.right.rank ≡ loose.rank) }
-    ensures parts { IfOk result (λ p. map stub_in loose.units.items
-        ≡ (map stub_in p.left.units.items ++ stub_in p.unit ∷ [])
-        ++ map stub_in p.right.units.items) }
+fn part_at(node: LooseNode, at: usize) -> Result<Parted, TreeFault>
+    requires { at < length node.loose_slots.items }
+    ensures left { IfOk result (λ p. length p.left.loose_slots.items ≡ at) }
+    ensures left_rank { IfOk result (λ p. p.left.rank ≡ node.rank) }
+    ensures right_rank { IfOk result (λ p. p.right.rank ≡ node.rank) }
+    ensures parts { IfOk result (λ p. map slot_in node.loose_slots.items
+        ≡ (map slot_in p.left.loose_slots.items ++ slot_in p.loose_slot ∷ [])
+        ++ map slot_in p.right.loose_slots.items) }
     ensures err { IfErr result (λ e. e ≡ Memory) }
 {
-    let mut units = loose.units;
-    let Ok(behind) = units.split_off(at + 1) else {
+    let mut loose_slots = node.loose_slots;
+    let Ok(behind) = loose_slots.split_off(at + 1) else {
         return Err(TreeFault::Memory);
     };
-    let Some(unit) = units.pop() else {
+    let Some(loose_slot) = loose_slots.pop() else {
         return Err(TreeFault::Memory);
     };
-    let left = Loose {
-        rank: loose.rank,
-        units,
+    let left = LooseNode {
+        rank: node.rank,
+        loose_slots,
         fills: false,
     };
-    let right = Loose {
-        rank: loose.rank,
-        units: behind,
+    let right = LooseNode {
+        rank: node.rank,
+        loose_slots: behind,
         fills: false,
     };
-    Ok(Parted { left, unit, right })
+    Ok(Parted {
+        left,
+        loose_slot,
+        right,
+    })
 }
 
 // Whether all edits lie behind the last cell.
@@ -139,7 +143,7 @@ fn change_cells<P: Pages>(
     leaf: &Leaf,
     rank: u32,
     edits: &[Edit<'_>],
-) -> Result<Loose, TreeFault>
+) -> Result<LooseNode, TreeFault>
     requires { Each HasRoom edits.now }
     ensures grows { Grows (P.store pages.old) (P.store pages.new) }
     ensures few { length edits.now ≤ 1 → GivesFew (P.store pages.old) (P.store pages.new) rank 5440
@@ -153,10 +157,10 @@ fn change_cells<P: Pages>(
 {
     let mut cells = leaf_cells(alloc, leaf)?;
     edit_cells(alloc, pages, &mut cells, edits)?;
-    let units = units_of_cells(alloc, &cells)?;
-    Ok(Loose {
+    let loose_slots = loose_slots_of_cells(alloc, &cells)?;
+    Ok(LooseNode {
         rank,
-        units,
+        loose_slots,
         fills: come_behind(leaf, edits),
     })
 }
@@ -168,7 +172,7 @@ fn change_leaf<P: Pages>(
     leaf: &Leaf,
     rank: u32,
     edits: &[Edit<'_>],
-) -> Result<Loose, TreeFault>
+) -> Result<LooseNode, TreeFault>
     requires { Each HasRoom edits.now }
     ensures grows { Grows (P.store pages.old) (P.store pages.new) }
     ensures few { length edits.now ≤ 1 → GivesFewOrOne (P.store pages.old) (P.store pages.new) rank
@@ -196,25 +200,25 @@ fn put_between<P: Pages>(
     at: usize,
     rank: u32,
     low: &[u8],
-    amid: Loose,
-) -> Result<Loose, TreeFault>
+    amid: LooseNode,
+) -> Result<LooseNode, TreeFault>
     requires sound { IsBranch branch.now }
     requires place { at < length branch.now }
     ensures grows { Grows (P.store pages.old) (P.store pages.new) }
     ensures few { (first : Store) (count : ℕ) → 6 + length low.now ≤ 1360
-        → IsFew first (P.store pages.old) rank (stubs_size (stubs_between (at - 1)
-        (min (at + 2) (length branch.now)) (map arm_stub (under_key low.now branch.now))) + 5440)
-        count (sheaf_in amid)
+        → IsFew first (P.store pages.old) rank (slots_size (slots_between (at - 1)
+        (min (at + 2) (length branch.now)) (map pivot_slot (under_key low.now branch.now))) + 5440)
+        count (model_in amid)
         → GivesFewOrOne first (P.store pages.new) rank 10880 count result }
     ensures turns { (base : ℕ) (high : Option (List ℕ)) (entries : List Entry) (reached : List ℕ)
         → IsAround (P.store pages.old) base low.now high
-        (map arm_stub (under_key low.now branch.now)) (at - 1) (min (at + 2) (length branch.now))
-        rank entries reached (sheaf_in amid)
+        (map pivot_slot (under_key low.now branch.now)) (at - 1) (min (at + 2) (length branch.now))
+        rank entries reached (model_in amid)
         → base < rank → 6 + length low.now ≤ 1360
         → Turns (P.store pages.old) (P.store pages.new) base low.now high entries reached result }
 {
     if go_between(branch, at, rank, low, &amid) {
-        return write_between(alloc, pages, branch, at, &amid.units, rank, low);
+        return write_between(alloc, pages, branch, at, &amid.loose_slots, rank, low);
     }
     let from = at.saturating_sub(1);
     let to = place_behind(branch, at);
@@ -232,19 +236,19 @@ fn put_apart<P: Pages>(
     at: usize,
     rank: u32,
     low: &[u8],
-    below: Loose,
-) -> Result<Loose, TreeFault>
+    below: LooseNode,
+) -> Result<LooseNode, TreeFault>
     requires sound { IsBranch branch.now }
     requires place { at < length branch.now }
     requires rank { 0 < rank }
     ensures grows { Grows (P.store pages.old) (P.store pages.new) }
     ensures few { (first : Store) (count : ℕ) → 6 + length low.now ≤ 1360
         → IsFewOrOne first (P.store pages.old) (rank - 1) 10880 (4 * (rank - 1) + count)
-        (sheaf_in below)
+        (model_in below)
         → GivesFewOrOne first (P.store pages.new) rank 10880 (4 * rank + count) result }
     ensures turns { (base : ℕ) (high : Option (List ℕ)) (entries : List Entry) (reached : List ℕ)
         → IsAmid (P.store pages.old) base low.now high branch.now at rank entries reached
-        (sheaf_in below)
+        (model_in below)
         → base < rank → 6 + length low.now ≤ 1360
         → Turns (P.store pages.old) (P.store pages.new) base low.now high entries reached result }
 {
@@ -266,20 +270,20 @@ fn put_child<P: Pages>(
     at: usize,
     rank: u32,
     low: &[u8],
-    below: Loose,
+    below: LooseNode,
     is_root: bool,
-) -> Result<Loose, TreeFault>
+) -> Result<LooseNode, TreeFault>
     requires sound { IsBranch branch.now }
     requires place { at < length branch.now }
     requires rank { 0 < rank }
     ensures grows { Grows (P.store pages.old) (P.store pages.new) }
     ensures few { (first : Store) (count : ℕ) → 6 + length low.now ≤ 1360
         → IsFewOrOne first (P.store pages.old) (rank - 1) 10880 (4 * (rank - 1) + count)
-        (sheaf_in below)
+        (model_in below)
         → GivesFewOrOne first (P.store pages.new) rank 10880 (4 * rank + count) result }
     ensures turns { (base : ℕ) (high : Option (List ℕ)) (entries : List Entry) (reached : List ℕ)
         → IsAmid (P.store pages.old) base low.now high branch.now at rank entries reached
-        (sheaf_in below)
+        (model_in below)
         → base < rank → 6 + length low.now ≤ 1360
         → Turns (P.store pages.old) (P.store pages.new) base low.now high entries reached result }
 {
@@ -303,7 +307,7 @@ pub(crate) fn change_below<P: Pages>(
     low: &[u8],
     edits: &[Edit<'_>],
     is_root: bool,
-) -> Result<Loose, TreeFault>
+) -> Result<LooseNode, TreeFault>
     requires { Each HasRoom edits.now }
     ensures grows { Grows (P.store pages.old) (P.store pages.new) }
     ensures few { length edits.now ≤ 1 → 6 + length low.now ≤ 1360
@@ -330,13 +334,13 @@ pub(crate) fn change_below<P: Pages>(
     if let Some(at) = child_of_all(branch, edits) {
         return change_child(alloc, pages, branch, at, rank, low, edits, is_root);
     }
-    let units = units_of_branch(alloc, branch, low)?;
-    let loose = Loose {
+    let loose_slots = loose_slots_of_branch(alloc, branch, low)?;
+    let node = LooseNode {
         rank,
-        units,
+        loose_slots,
         fills: false,
     };
-    change_children(alloc, pages, loose, edits)
+    change_children(alloc, pages, node, edits)
 }
 
 // A branch of which one child changes.
@@ -350,7 +354,7 @@ fn change_child<P: Pages>(
     low: &[u8],
     edits: &[Edit<'_>],
     is_root: bool,
-) -> Result<Loose, TreeFault>
+) -> Result<LooseNode, TreeFault>
     requires room { Each HasRoom edits.now }
     requires sound { IsBranch branch.now }
     requires place { at < length branch.now }
@@ -361,7 +365,7 @@ fn change_child<P: Pages>(
         (4 * rank + sum_of edit_pages (map edit_in edits.now)) result }
     ensures turns { (base : ℕ) (high : Option (List ℕ)) (entries : List Entry) (reached : List ℕ)
         → IsHeld (P.store pages.old) base low.now high entries reached
-        (record { rank = rank; stubs = map arm_stub (under_key low.now branch.now) })
+        (record { rank = rank; slots = map pivot_slot (under_key low.now branch.now) })
         → base < rank → AreAt branch.now (map edit_in edits.now) at
         → Rises (edit_keys (map edit_in edits.now))
         → Each (λ e. IsBetween low.now high e.key) (map edit_in edits.now)
@@ -380,25 +384,25 @@ fn change_child<P: Pages>(
 fn change_children<P: Pages>(
     alloc: Global,
     pages: &mut P,
-    loose: Loose,
+    node: LooseNode,
     edits: &[Edit<'_>],
-) -> Result<Loose, TreeFault>
+) -> Result<LooseNode, TreeFault>
     requires room { Each HasRoom edits.now }
-    requires rank { 0 < loose.rank }
+    requires rank { 0 < node.rank }
     ensures grows { Grows (P.store pages.old) (P.store pages.new) }
     ensures none { length edits.now ≡ 0
-        → (result ≡ Ok loose) × (P.store pages.new ≡ P.store pages.old) }
-    ensures some { 0 < length edits.now → IfOk result (λ done. 0 < length loose.units.items) }
-    ensures empty { length loose.units.items ≡ 0 → P.store pages.new ≡ P.store pages.old }
-    ensures few { length edits.now ≤ 1 → IsLittle 5440 (sheaf_in loose)
-        → 2 ≤ length loose.units.items
-        → GivesFew (P.store pages.old) (P.store pages.new) loose.rank 10880
-        (4 * loose.rank + sum_of edit_pages (map edit_in edits.now)) result }
+        → (result ≡ Ok node) × (P.store pages.new ≡ P.store pages.old) }
+    ensures some { 0 < length edits.now → IfOk result (λ done. 0 < length node.loose_slots.items) }
+    ensures empty { length node.loose_slots.items ≡ 0 → P.store pages.new ≡ P.store pages.old }
+    ensures few { length edits.now ≤ 1 → IsLittle 5440 (model_in node)
+        → 2 ≤ length node.loose_slots.items
+        → GivesFew (P.store pages.old) (P.store pages.new) node.rank 10880
+        (4 * node.rank + sum_of edit_pages (map edit_in edits.now)) result }
     ensures turns { (base : ℕ) (low : List ℕ) (high : Option (List ℕ)) (entries : List Entry)
         (reached : List ℕ)
-        → IsHeld (P.store pages.old) base low high entries reached (sheaf_in loose)
-        → base < loose.rank
-        → BeginsAt low (map edit_in edits.now) (map stub_in loose.units.items)
+        → IsHeld (P.store pages.old) base low high entries reached (model_in node)
+        → base < node.rank
+        → BeginsAt low (map edit_in edits.now) (map slot_in node.loose_slots.items)
         → Rises (edit_keys (map edit_in edits.now))
         → Each (λ e. IsBetween low high e.key) (map edit_in edits.now)
         → Turns (P.store pages.old) (P.store pages.new) base low high
@@ -406,17 +410,21 @@ fn change_children<P: Pages>(
 {
     let len = edits.len();
     if len == 0 {
-        return Ok(loose);
+        return Ok(node);
     }
-    if loose.units.is_empty() {
+    if node.loose_slots.is_empty() {
         return Err(TreeFault::Order);
     }
-    let at = child_place(&loose.units, edits[len - 1].key);
-    let Parted { left, unit, right } = part_at(loose, at)?;
-    let Some(page) = page_below(&unit) else {
+    let at = child_place(&node.loose_slots, edits[len - 1].key);
+    let Parted {
+        left,
+        loose_slot,
+        right,
+    } = part_at(node, at)?;
+    let Some(page) = page_below(&loose_slot) else {
         return Err(TreeFault::Kind);
     };
-    let key = unit.key.as_slice();
+    let key = loose_slot.key.as_slice();
     let (theirs, mine) = edits_at(edits, key);
     let below = change_below(alloc, pages, page, left.rank - 1, key, mine, false)?;
     let front = change_children(alloc, pages, left, theirs)?;

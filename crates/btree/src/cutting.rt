@@ -2,11 +2,11 @@
 ghost use Rattle.std.specs.Prelude.{◌≡◌, ◌<◌, ◌≤◌, ◌+◌, ◌-◌, ◌^◌, ◌⊎◌, ℕ, false, true, List, length, map, take, drop, None, slice_index_or};
 ghost use Rattle.btree.specs.Few.{IsFullPart};
 ghost use Rattle.btree.specs.Keys.{Each};
-ghost use Rattle.btree.specs.Loose.{GoBehind, IsOver, IsPart, IsStub, Stub, stub_size, stubs_size};
-ghost use Rattle.btree.specs.LooseView.{stub_in};
+ghost use Rattle.btree.specs.Loose.{GoBehind, IsOver, IsPart, IsSlot, Slot, slot_size, slots_size};
+ghost use Rattle.btree.specs.LooseView.{slot_in};
 ghost use Rattle.std.specs.Option.{option_map};
 
-use crate::loose::{Hold, Unit};
+use crate::node::{LooseSlot, Payload};
 use key_order::compare_keys;
 use std::cmp::Ordering;
 
@@ -20,16 +20,16 @@ const TWO_THIRDS: usize = 2720;
 const INLINE: usize = 330;
 
 // The bytes of a cell or child, where they are no more than a cell may have.
-fn unit_size(unit: &Unit) -> usize
-    ensures small { stub_size (stub_in unit.now) ≤ 4080 → result ≡ stub_size (stub_in unit.now) }
-    ensures large { result ≤ 4080 → result ≡ stub_size (stub_in unit.now) }
+fn loose_slot_size(loose_slot: &LooseSlot) -> usize
+    ensures small { slot_size (slot_in loose_slot.now) ≤ 4080 → result ≡ slot_size (slot_in loose_slot.now) }
+    ensures large { result ≤ 4080 → result ≡ slot_size (slot_in loose_slot.now) }
 {
-    let value = match &unit.hold {
-        Hold::Inline(bytes) => bytes.len(),
-        Hold::Chained { .. } => 4,
-        Hold::Page(_) => 0,
+    let value = match &loose_slot.payload {
+        Payload::Inline(bytes) => bytes.len(),
+        Payload::Chained { .. } => 4,
+        Payload::Page(_) => 0,
     };
-    unit.key.len().saturating_add(value).saturating_add(6)
+    loose_slot.key.len().saturating_add(value).saturating_add(6)
 }
 
 // Any number can be a page's.
@@ -52,17 +52,17 @@ fn is_chain(len: u32, first: u32) -> bool
 }
 
 // Whether the cell or child may stand in a page.
-fn is_unit(unit: &Unit) -> bool
-    ensures yes { IsStub (stub_in unit.now) → result ≡ true }
-    ensures no { result ≡ true → IsStub (stub_in unit.now) }
+fn is_loose_slot(loose_slot: &LooseSlot) -> bool
+    ensures yes { IsSlot (slot_in loose_slot.now) → result ≡ true }
+    ensures no { result ≡ true → IsSlot (slot_in loose_slot.now) }
 {
-    if unit_size(unit) > THIRD {
+    if loose_slot_size(loose_slot) > THIRD {
         return false;
     }
-    match &unit.hold {
-        Hold::Inline(bytes) => bytes.len() <= INLINE,
-        Hold::Chained { len, first } => is_chain(*len, *first),
-        Hold::Page(page) => is_number(*page),
+    match &loose_slot.payload {
+        Payload::Inline(bytes) => bytes.len() <= INLINE,
+        Payload::Chained { len, first } => is_chain(*len, *first),
+        Payload::Page(page) => is_number(*page),
     }
 }
 
@@ -78,21 +78,21 @@ pub(crate) fn is_over(key: &[u8], last: Option<&[u8]>) -> bool
 }
 
 /// Whether cells or children ascend, each no larger than it may be, and find room in a page.
-pub(crate) fn go_into_page(units: &[Unit]) -> bool
-    ensures yes { GoBehind None 0 (map stub_in units.now) → result ≡ true }
-    ensures no { result ≡ true → GoBehind None 0 (map stub_in units.now) }
+pub(crate) fn go_into_page(loose_slots: &[LooseSlot]) -> bool
+    ensures yes { GoBehind None 0 (map slot_in loose_slots.now) → result ≡ true }
+    ensures no { result ≡ true → GoBehind None 0 (map slot_in loose_slots.now) }
 {
     let mut used = 0;
     let mut last = None;
-    for unit in units {
-        if !is_unit(unit) {
+    for loose_slot in loose_slots {
+        if !is_loose_slot(loose_slot) {
             return false;
         }
-        let key = unit.key.as_slice();
+        let key = loose_slot.key.as_slice();
         if !is_over(key, last) {
             return false;
         }
-        let size = unit_size(unit);
+        let size = loose_slot_size(loose_slot);
         if size > ROOM - used {
             return false;
         }
@@ -103,80 +103,80 @@ pub(crate) fn go_into_page(units: &[Unit]) -> bool
 }
 
 /// How many of the first cells or children find room in so many bytes.
-pub(crate) fn units_within(units: &[Unit], limit: usize) -> usize
+pub(crate) fn loose_slots_within(loose_slots: &[LooseSlot], limit: usize) -> usize
     requires { limit ≤ 4080 }
-    ensures within { result ≤ length units.now }
-    ensures room { stubs_size (take result (map stub_in units.now)) ≤ limit }
-    ensures next { (s : Stub) → result < length units.now
-        → limit < stubs_size (take result (map stub_in units.now))
-        + stub_size (slice_index_or (map stub_in units.now) result s) }
+    ensures within { result ≤ length loose_slots.now }
+    ensures room { slots_size (take result (map slot_in loose_slots.now)) ≤ limit }
+    ensures next { (s : Slot) → result < length loose_slots.now
+        → limit < slots_size (take result (map slot_in loose_slots.now))
+        + slot_size (slice_index_or (map slot_in loose_slots.now) result s) }
 {
     let mut used = 0;
-    for (i, unit) in units.iter().enumerate() {
-        let size = unit_size(unit);
+    for (i, loose_slot) in loose_slots.iter().enumerate() {
+        let size = loose_slot_size(loose_slot);
         if size > limit - used {
             return i;
         }
         used += size;
     }
-    units.len()
+    loose_slots.len()
 }
 
 // The bytes of cells or children.
-fn bytes_of(units: &[Unit]) -> usize {
+fn bytes_of(loose_slots: &[LooseSlot]) -> usize {
     let mut bytes: usize = 0;
-    for unit in units {
-        bytes = bytes.saturating_add(unit_size(unit));
+    for loose_slot in loose_slots {
+        bytes = bytes.saturating_add(loose_slot_size(loose_slot));
     }
     bytes
 }
 
 // The bytes of the first of two or three pages that get about as much. Of more than three the first is filled.
-fn share_of(units: &[Unit], whole: usize) -> usize
-    requires { whole ≤ length units.now }
+fn share_of(loose_slots: &[LooseSlot], whole: usize) -> usize
+    requires { whole ≤ length loose_slots.now }
     ensures { result ≤ 4080 }
 {
-    let behind = &units[whole..];
-    let second = units_within(behind, ROOM);
-    let third = units_within(&behind[second..], ROOM);
+    let behind = &loose_slots[whole..];
+    let second = loose_slots_within(behind, ROOM);
+    let third = loose_slots_within(&behind[second..], ROOM);
     if second + third < behind.len() {
         return ROOM;
     }
-    let bytes = bytes_of(units);
-    let share = if second < behind.len() {
+    let bytes = bytes_of(loose_slots);
+    let clone_ref = if second < behind.len() {
         bytes / 3
     } else {
         bytes / 2
     };
-    if share > ROOM {
+    if clone_ref > ROOM {
         return ROOM;
     }
-    share
+    clone_ref
 }
 
 // Whether so many of the first cells or children leave two or more for the next page, and have two thirds of a
 // page, or a third where the next page has room for all the others.
-fn is_enough(units: &[Unit], whole: usize, at: usize) -> bool
-    requires inside { whole ≤ length units.now }
-    requires room { stubs_size (take whole (map stub_in units.now)) ≤ 4080 }
-    requires over { 4080 < stubs_size (map stub_in units.now) }
-    ensures within { result ≡ true → at ≤ length units.now }
-    ensures enough { result ≡ true → Each IsStub (map stub_in units.now)
-        → IsPart false (map stub_in units.now) at × IsFullPart (map stub_in units.now) at }
+fn is_enough(loose_slots: &[LooseSlot], whole: usize, at: usize) -> bool
+    requires inside { whole ≤ length loose_slots.now }
+    requires room { slots_size (take whole (map slot_in loose_slots.now)) ≤ 4080 }
+    requires over { 4080 < slots_size (map slot_in loose_slots.now) }
+    ensures within { result ≡ true → at ≤ length loose_slots.now }
+    ensures enough { result ≡ true → Each IsSlot (map slot_in loose_slots.now)
+        → IsPart false (map slot_in loose_slots.now) at × IsFullPart (map slot_in loose_slots.now) at }
 {
-    if at > whole || units.len() - at < 2 {
+    if at > whole || loose_slots.len() - at < 2 {
         return false;
     }
-    let large = units_within(units, TWO_THIRDS);
+    let large = loose_slots_within(loose_slots, TWO_THIRDS);
     if large < at {
         return true;
     }
-    let little = units_within(units, THIRD);
+    let little = loose_slots_within(loose_slots, THIRD);
     if little >= at {
         return false;
     }
-    let behind = units_within(&units[whole..], THIRD);
-    if whole + behind < units.len() {
+    let behind = loose_slots_within(&loose_slots[whole..], THIRD);
+    if whole + behind < loose_slots.len() {
         return false;
     }
     true
@@ -184,17 +184,17 @@ fn is_enough(units: &[Unit], whole: usize, at: usize) -> bool
 
 /// How many cells or children go into the next page: as many as find room, where the pages are filled, else about as
 /// many bytes as into the pages behind it.
-pub(crate) fn part_len(units: &[Unit], fills: bool) -> usize
-    requires { 0 < length units.now }
+pub(crate) fn part_len(loose_slots: &[LooseSlot], fills: bool) -> usize
+    requires { 0 < length loose_slots.now }
     ensures some { 0 < result }
-    ensures within { result ≤ length units.now }
-    ensures part { Each IsStub (map stub_in units.now)
-        → IsPart fills (map stub_in units.now) result }
-    ensures full { Each IsStub (map stub_in units.now)
-        → IsFullPart (map stub_in units.now) result }
+    ensures within { result ≤ length loose_slots.now }
+    ensures part { Each IsSlot (map slot_in loose_slots.now)
+        → IsPart fills (map slot_in loose_slots.now) result }
+    ensures full { Each IsSlot (map slot_in loose_slots.now)
+        → IsFullPart (map slot_in loose_slots.now) result }
 {
-    let whole = units_within(units, ROOM);
-    if whole >= units.len() {
+    let whole = loose_slots_within(loose_slots, ROOM);
+    if whole >= loose_slots.len() {
         return whole;
     }
     if whole == 0 {
@@ -203,16 +203,16 @@ pub(crate) fn part_len(units: &[Unit], fills: bool) -> usize
     if fills {
         return whole;
     }
-    let share = units_within(units, share_of(units, whole));
-    let even = share + 1;
-    if is_enough(units, whole, even) {
+    let clone_ref = loose_slots_within(loose_slots, share_of(loose_slots, whole));
+    let even = clone_ref + 1;
+    if is_enough(loose_slots, whole, even) {
         return even;
     }
-    let behind = units_within(&units[whole..], THIRD);
-    if whole + behind < units.len() {
+    let behind = loose_slots_within(&loose_slots[whole..], THIRD);
+    if whole + behind < loose_slots.len() {
         return whole;
     }
-    let half = units_within(units, TWO_THIRDS);
+    let half = loose_slots_within(loose_slots, TWO_THIRDS);
     if half == 0 {
         return 1;
     }

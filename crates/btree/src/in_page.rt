@@ -14,9 +14,9 @@ ghost use Rattle.btree.specs.Turn.{Turns};
 use crate::cutting::ROOM;
 use crate::editing::{Edit, INLINE, retire_value, stored_value};
 use crate::joining::LITTLE;
-use crate::loose::{Loose, push_unit};
-use crate::opening::units_of_leaf;
-use crate::parts::child_unit;
+use crate::node::{LooseNode, push_loose_slot};
+use crate::opening::loose_slots_of_leaf;
+use crate::parts::child_loose_slot;
 use crate::search::{leaf_cell, leaf_key, place_of_key};
 use crate::{Pages, TreeFault};
 use key_order::compare_keys;
@@ -209,7 +209,7 @@ pub(crate) fn write_leaf<P: Pages>(
     leaf: Leaf,
     rank: u32,
     fills: bool,
-) -> Result<Loose, TreeFault>
+) -> Result<LooseNode, TreeFault>
     ensures grows { Grows (P.store pages.old) (P.store pages.new) }
     ensures few { GivesFewOrOne (P.store pages.old) (P.store pages.new) rank 5440 0 result }
     ensures turns { (base : ℕ) (low : List ℕ) (high : Option (List ℕ)) (pairs : List Pair)
@@ -219,20 +219,20 @@ pub(crate) fn write_leaf<P: Pages>(
         (pages_of zero pairs) result }
 {
     if leaf.len() < 2 || (leaf.size() <= LITTLE && !fills) || rank == u32::MAX {
-        let units = units_of_leaf(alloc, &leaf)?;
-        return Ok(Loose {
+        let loose_slots = loose_slots_of_leaf(alloc, &leaf)?;
+        return Ok(LooseNode {
             rank,
-            units,
+            loose_slots,
             fills: false,
         });
     }
     let key = Vec::from_slice(alloc, leaf_key(&leaf, 0))?;
-    let page = pages.fresh(PageContent::Leaf(leaf))?;
-    let mut units = Vec::new(alloc);
-    push_unit(&mut units, child_unit(key, page))?;
-    Ok(Loose {
+    let page = pages.allocate(PageContent::Leaf(leaf))?;
+    let mut loose_slots = Vec::new(alloc);
+    push_loose_slot(&mut loose_slots, child_loose_slot(key, page))?;
+    Ok(LooseNode {
         rank: rank + 1,
-        units,
+        loose_slots,
         fills: false,
     })
 }

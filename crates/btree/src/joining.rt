@@ -3,13 +3,13 @@ ghost use Rattle.std.specs.Prelude.{◌≡◌, ◌<◌, ◌≤◌, ◌+◌, ◌+
 ghost use Rattle.btree.specs.Change.{IsBehind};
 ghost use Rattle.btree.specs.Few.{AreFewOff, IsLittle, GivesFew, JoinsFew, MakesUpTo};
 ghost use Rattle.btree.specs.Keys.{Each, Entry, IsNotUnder};
-ghost use Rattle.btree.specs.Loose.{IsStub, stubs_size};
-ghost use Rattle.btree.specs.LooseView.{stub_in};
+ghost use Rattle.btree.specs.Loose.{IsSlot, slots_size};
+ghost use Rattle.btree.specs.LooseView.{slot_in};
 ghost use Rattle.btree.specs.Store.{Grows, KeepsWord, Store};
-ghost use Rattle.btree.specs.Turn.{GoesBefore, IsHeld, IsJoined, IsReady, IsUpTo, PartsFirst, PartsLast, Turns, sheaf_in};
+ghost use Rattle.btree.specs.Turn.{GoesBefore, IsHeld, IsJoined, IsReady, IsUpTo, PartsFirst, PartsLast, Turns, model_in};
 
-use crate::cutting::{ROOM, THIRD, units_within};
-use crate::loose::{Loose, Unit, page_below};
+use crate::cutting::{ROOM, THIRD, loose_slots_within};
+use crate::node::{LooseNode, LooseSlot, page_below};
 use crate::opening::{concat, open_page, raise};
 use crate::{Pages, TreeFault};
 use std::alloc::Global;
@@ -21,77 +21,77 @@ pub(crate) const LITTLE: usize = 1836;
 
 // Whether they are enough for pages of their own. Cells that are just more than a page aren't: a page beside them may
 // have room for some.
-fn fill_pages(units: &[Unit]) -> bool
-    requires { 0 < length units.now }
-    ensures { result ≡ false → Each IsStub (map stub_in units.now)
-        → stubs_size (map stub_in units.now) ≤ 5440 }
+fn fill_pages(loose_slots: &[LooseSlot]) -> bool
+    requires { 0 < length loose_slots.now }
+    ensures { result ≡ false → Each IsSlot (map slot_in loose_slots.now)
+        → slots_size (map slot_in loose_slots.now) ≤ 5440 }
 {
-    if units[0].is_child() {
-        return units_within(units, QUARTER) < units.len();
+    if loose_slots[0].is_child() {
+        return loose_slots_within(loose_slots, QUARTER) < loose_slots.len();
     }
-    if units_within(units, LITTLE) >= units.len() {
+    if loose_slots_within(loose_slots, LITTLE) >= loose_slots.len() {
         return false;
     }
-    let whole = units_within(units, ROOM);
-    if whole >= units.len() {
+    let whole = loose_slots_within(loose_slots, ROOM);
+    if whole >= loose_slots.len() {
         return true;
     }
-    let behind = units_within(&units[whole..], THIRD);
-    if whole + behind < units.len() {
+    let behind = loose_slots_within(&loose_slots[whole..], THIRD);
+    if whole + behind < loose_slots.len() {
         return true;
     }
     false
 }
 
 /// Whether it may stand in pages of its own. Cells that came behind all others may, however few: more may come there.
-pub(crate) fn is_full(loose: &Loose) -> bool
-    ensures two { result ≡ true → 2 ≤ length loose.now.units.items }
-    ensures few { result ≡ false → Each IsStub (map stub_in loose.now.units.items)
-        → stubs_size (map stub_in loose.now.units.items) ≤ 5440 }
+pub(crate) fn is_full(node: &LooseNode) -> bool
+    ensures two { result ≡ true → 2 ≤ length node.now.loose_slots.items }
+    ensures few { result ≡ false → Each IsSlot (map slot_in node.now.loose_slots.items)
+        → slots_size (map slot_in node.now.loose_slots.items) ≤ 5440 }
 {
-    if loose.units.len() < 2 {
+    if node.loose_slots.len() < 2 {
         return false;
     }
-    if loose.fills {
+    if node.fills {
         return true;
     }
-    fill_pages(&loose.units)
+    fill_pages(&node.loose_slots)
 }
 
 // Takes the last child off and takes its page apart.
 fn take_last<P: Pages>(
     alloc: Global,
     pages: &mut P,
-    loose: Loose,
-) -> Result<(Loose, Loose), TreeFault>
-    requires { 0 < loose.rank }
+    node: LooseNode,
+) -> Result<(LooseNode, LooseNode), TreeFault>
+    requires { 0 < node.rank }
     ensures grows { Grows (P.store pages.old) (P.store pages.new) }
-    ensures front_rank { IfOk result (λ parts. parts.0.rank ≡ loose.rank) }
+    ensures front_rank { IfOk result (λ parts. parts.0.rank ≡ node.rank) }
     ensures front { IfOk result
-        (λ parts. length parts.0.units.items + 1 ≡ length loose.units.items) }
-    ensures back_rank { IfOk result (λ parts. parts.1.rank + 1 ≡ loose.rank) }
-    ensures back { IfOk result (λ parts. 0 < length parts.1.units.items) }
-    ensures few { KeepsWord (P.store pages.new) → Each IsStub (map stub_in loose.units.items)
+        (λ parts. length parts.0.loose_slots.items + 1 ≡ length node.loose_slots.items) }
+    ensures back_rank { IfOk result (λ parts. parts.1.rank + 1 ≡ node.rank) }
+    ensures back { IfOk result (λ parts. 0 < length parts.1.loose_slots.items) }
+    ensures few { KeepsWord (P.store pages.new) → Each IsSlot (map slot_in node.loose_slots.items)
         → MatchResult result (λ parts. AreFewOff (P.store pages.old) (P.store pages.new)
-        (map stub_in loose.units.items) (sheaf_in parts.0) (sheaf_in parts.1))
+        (map slot_in node.loose_slots.items) (model_in parts.0) (model_in parts.1))
         (λ e. MakesUpTo (P.store pages.old) (P.store pages.new) 0) }
     ensures parts { (base : ℕ) (low : List ℕ) (high : Option (List ℕ)) (entries : List Entry)
         (reached : List ℕ)
-        → IsHeld (P.store pages.old) base low high entries reached (sheaf_in loose)
-        → base < loose.rank → 0 < length loose.units.items
+        → IsHeld (P.store pages.old) base low high entries reached (model_in node)
+        → base < node.rank → 0 < length node.loose_slots.items
         → PartsLast (P.store pages.old) (P.store pages.new) base low high entries reached result }
 {
-    let mut units = loose.units;
-    let Some(unit) = units.pop() else {
+    let mut loose_slots = node.loose_slots;
+    let Some(loose_slot) = loose_slots.pop() else {
         return Err(TreeFault::Length);
     };
-    let Some(page) = page_below(&unit) else {
+    let Some(page) = page_below(&loose_slot) else {
         return Err(TreeFault::Kind);
     };
-    let opened = open_page(alloc, pages, page, loose.rank - 1, &unit.key)?;
-    let front = Loose {
-        rank: loose.rank,
-        units,
+    let opened = open_page(alloc, pages, page, node.rank - 1, &loose_slot.key)?;
+    let front = LooseNode {
+        rank: node.rank,
+        loose_slots,
         fills: false,
     };
     Ok((front, opened))
@@ -101,38 +101,38 @@ fn take_last<P: Pages>(
 fn take_first<P: Pages>(
     alloc: Global,
     pages: &mut P,
-    loose: Loose,
-) -> Result<(Loose, Loose), TreeFault>
-    requires { 0 < loose.rank }
+    node: LooseNode,
+) -> Result<(LooseNode, LooseNode), TreeFault>
+    requires { 0 < node.rank }
     ensures grows { Grows (P.store pages.old) (P.store pages.new) }
-    ensures front_rank { IfOk result (λ parts. parts.0.rank + 1 ≡ loose.rank) }
-    ensures front { IfOk result (λ parts. 0 < length parts.0.units.items) }
-    ensures back_rank { IfOk result (λ parts. parts.1.rank ≡ loose.rank) }
+    ensures front_rank { IfOk result (λ parts. parts.0.rank + 1 ≡ node.rank) }
+    ensures front { IfOk result (λ parts. 0 < length parts.0.loose_slots.items) }
+    ensures back_rank { IfOk result (λ parts. parts.1.rank ≡ node.rank) }
     ensures back { IfOk result
-        (λ parts. length parts.1.units.items + 1 ≡ length loose.units.items) }
-    ensures few { KeepsWord (P.store pages.new) → Each IsStub (map stub_in loose.units.items)
+        (λ parts. length parts.1.loose_slots.items + 1 ≡ length node.loose_slots.items) }
+    ensures few { KeepsWord (P.store pages.new) → Each IsSlot (map slot_in node.loose_slots.items)
         → MatchResult result (λ parts. AreFewOff (P.store pages.old) (P.store pages.new)
-        (map stub_in loose.units.items) (sheaf_in parts.1) (sheaf_in parts.0))
+        (map slot_in node.loose_slots.items) (model_in parts.1) (model_in parts.0))
         (λ e. MakesUpTo (P.store pages.old) (P.store pages.new) 0) }
     ensures parts { (base : ℕ) (low : List ℕ) (high : Option (List ℕ)) (entries : List Entry)
         (reached : List ℕ)
-        → IsHeld (P.store pages.old) base low high entries reached (sheaf_in loose)
-        → base < loose.rank → 0 < length loose.units.items → IsUpTo low high
+        → IsHeld (P.store pages.old) base low high entries reached (model_in node)
+        → base < node.rank → 0 < length node.loose_slots.items → IsUpTo low high
         → PartsFirst (P.store pages.old) (P.store pages.new) base low high entries reached result }
 {
-    let mut units = loose.units;
-    if units.is_empty() {
+    let mut loose_slots = node.loose_slots;
+    if loose_slots.is_empty() {
         return Err(TreeFault::Length);
     }
-    let unit = units.remove(0);
-    let Some(page) = page_below(&unit) else {
+    let loose_slot = loose_slots.remove(0);
+    let Some(page) = page_below(&loose_slot) else {
         return Err(TreeFault::Kind);
     };
-    let opened = open_page(alloc, pages, page, loose.rank - 1, &unit.key)?;
-    let back = Loose {
-        rank: loose.rank,
-        units,
-        fills: loose.fills,
+    let opened = open_page(alloc, pages, page, node.rank - 1, &loose_slot.key)?;
+    let back = LooseNode {
+        rank: node.rank,
+        loose_slots,
+        fills: node.fills,
     };
     Ok((opened, back))
 }
@@ -141,23 +141,23 @@ fn take_first<P: Pages>(
 fn raise_behind<P: Pages>(
     alloc: Global,
     pages: &mut P,
-    front: Loose,
-    below: Loose,
-) -> Result<Loose, TreeFault>
+    front: LooseNode,
+    below: LooseNode,
+) -> Result<LooseNode, TreeFault>
     requires next { below.rank + 1 ≡ front.rank }
     requires range { below.rank < 4294967295 }
     ensures grows { Grows (P.store pages.old) (P.store pages.new) }
     ensures rank { IfOk result (λ both. both.rank ≡ front.rank) }
-    ensures long { 0 < length below.units.items
-        → IfOk result (λ both. length front.units.items + 1 ≤ length both.units.items) }
-    ensures few { IsLittle 10880 (sheaf_in below) → Each IsStub (map stub_in front.units.items)
+    ensures long { 0 < length below.loose_slots.items
+        → IfOk result (λ both. length front.loose_slots.items + 1 ≤ length both.loose_slots.items) }
+    ensures few { IsLittle 10880 (model_in below) → Each IsSlot (map slot_in front.loose_slots.items)
         → GivesFew (P.store pages.old) (P.store pages.new) front.rank
-        (stubs_size (map stub_in front.units.items) + 5440) 4 result }
+        (slots_size (map slot_in front.loose_slots.items) + 5440) 4 result }
     ensures turns { (base : ℕ) (low mid : List ℕ) (high : Option (List ℕ)) (first last : List Entry)
         (front_pages pages_below : List ℕ)
-        → IsHeld (P.store pages.old) base low (Some mid) first front_pages (sheaf_in front)
-        → IsHeld (P.store pages.old) base mid high last pages_below (sheaf_in below)
-        → IsReady base (sheaf_in below) → IsNotUnder mid low → IsUpTo mid high
+        → IsHeld (P.store pages.old) base low (Some mid) first front_pages (model_in front)
+        → IsHeld (P.store pages.old) base mid high last pages_below (model_in below)
+        → IsReady base (model_in below) → IsNotUnder mid low → IsUpTo mid high
         → Turns (P.store pages.old) (P.store pages.new) base low high (first ++ last)
         (front_pages ++ pages_below) result }
 {
@@ -169,23 +169,23 @@ fn raise_behind<P: Pages>(
 fn raise_before<P: Pages>(
     alloc: Global,
     pages: &mut P,
-    below: Loose,
-    back: Loose,
-) -> Result<Loose, TreeFault>
+    below: LooseNode,
+    back: LooseNode,
+) -> Result<LooseNode, TreeFault>
     requires next { below.rank + 1 ≡ back.rank }
     requires range { below.rank < 4294967295 }
     ensures grows { Grows (P.store pages.old) (P.store pages.new) }
     ensures rank { IfOk result (λ both. both.rank ≡ back.rank) }
-    ensures long { 0 < length below.units.items
-        → IfOk result (λ both. length back.units.items + 1 ≤ length both.units.items) }
-    ensures few { IsLittle 10880 (sheaf_in below) → Each IsStub (map stub_in back.units.items)
+    ensures long { 0 < length below.loose_slots.items
+        → IfOk result (λ both. length back.loose_slots.items + 1 ≤ length both.loose_slots.items) }
+    ensures few { IsLittle 10880 (model_in below) → Each IsSlot (map slot_in back.loose_slots.items)
         → GivesFew (P.store pages.old) (P.store pages.new) back.rank
-        (stubs_size (map stub_in back.units.items) + 5440) 4 result }
+        (slots_size (map slot_in back.loose_slots.items) + 5440) 4 result }
     ensures turns { (base : ℕ) (low : List ℕ) (between high : Option (List ℕ))
         (first last : List Entry) (pages_below back_pages : List ℕ)
-        → IsHeld (P.store pages.old) base low between first pages_below (sheaf_in below)
-        → IsReady base (sheaf_in below)
-        → GoesBefore (P.store pages.old) base low between high last back_pages (sheaf_in back)
+        → IsHeld (P.store pages.old) base low between first pages_below (model_in below)
+        → IsReady base (model_in below)
+        → GoesBefore (P.store pages.old) base low between high last back_pages (model_in back)
         → Turns (P.store pages.old) (P.store pages.new) base low high (first ++ last)
         (pages_below ++ back_pages) result }
 {
@@ -198,26 +198,26 @@ fn raise_before<P: Pages>(
 pub(crate) fn join<P: Pages>(
     alloc: Global,
     pages: &mut P,
-    left: Loose,
-    right: Loose,
-) -> Result<Loose, TreeFault>
+    left: LooseNode,
+    right: LooseNode,
+) -> Result<LooseNode, TreeFault>
     ensures grows { Grows (P.store pages.old) (P.store pages.new) }
     ensures joined { IfOk result
-        (λ both. IsJoined (sheaf_in left) (sheaf_in right) (sheaf_in both)) }
-    ensures few { JoinsFew 5440 (P.store pages.old) (P.store pages.new) (sheaf_in left)
-        (sheaf_in right) result }
+        (λ both. IsJoined (model_in left) (model_in right) (model_in both)) }
+    ensures few { JoinsFew 5440 (P.store pages.old) (P.store pages.new) (model_in left)
+        (model_in right) result }
     ensures turns { (base : ℕ) (low mid : List ℕ) (high : Option (List ℕ)) (first last : List Entry)
         (left_pages right_pages : List ℕ)
-        → IsHeld (P.store pages.old) base low (Some mid) first left_pages (sheaf_in left)
-        → IsHeld (P.store pages.old) base mid high last right_pages (sheaf_in right)
+        → IsHeld (P.store pages.old) base low (Some mid) first left_pages (model_in left)
+        → IsHeld (P.store pages.old) base mid high last right_pages (model_in right)
         → IsNotUnder mid low → IsUpTo mid high
         → Turns (P.store pages.old) (P.store pages.new) base low high (first ++ last)
         (left_pages ++ right_pages) result }
 {
-    if left.units.is_empty() {
+    if left.loose_slots.is_empty() {
         return Ok(right);
     }
-    if right.units.is_empty() {
+    if right.loose_slots.is_empty() {
         return Ok(left);
     }
     if left.rank == right.rank {
@@ -238,16 +238,16 @@ pub(crate) fn join<P: Pages>(
 pub(crate) fn meet<P: Pages>(
     alloc: Global,
     pages: &mut P,
-    left: Loose,
-    right: Loose,
-) -> Result<Loose, TreeFault>
+    left: LooseNode,
+    right: LooseNode,
+) -> Result<LooseNode, TreeFault>
     ensures grows { Grows (P.store pages.old) (P.store pages.new) }
-    ensures few { JoinsFew 10880 (P.store pages.old) (P.store pages.new) (sheaf_in left)
-        (sheaf_in right) result }
+    ensures few { JoinsFew 10880 (P.store pages.old) (P.store pages.new) (model_in left)
+        (model_in right) result }
     ensures turns { (base : ℕ) (low mid : List ℕ) (high : Option (List ℕ)) (first last : List Entry)
         (left_pages right_pages : List ℕ)
-        → IsHeld (P.store pages.old) base low (Some mid) first left_pages (sheaf_in left)
-        → IsHeld (P.store pages.old) base mid high last right_pages (sheaf_in right)
+        → IsHeld (P.store pages.old) base low (Some mid) first left_pages (model_in left)
+        → IsHeld (P.store pages.old) base mid high last right_pages (model_in right)
         → IsNotUnder mid low → IsUpTo mid high
         → Turns (P.store pages.old) (P.store pages.new) base low high (first ++ last)
         (left_pages ++ right_pages) result }
@@ -274,26 +274,26 @@ pub(crate) fn meet<P: Pages>(
 pub(crate) fn meet_behind<P: Pages>(
     alloc: Global,
     pages: &mut P,
-    left: Loose,
-    right: Loose,
-) -> Result<Loose, TreeFault>
+    left: LooseNode,
+    right: LooseNode,
+) -> Result<LooseNode, TreeFault>
     ensures grows { Grows (P.store pages.old) (P.store pages.new) }
-    ensures few { 0 < length right.units.items
-        → JoinsFew 10880 (P.store pages.old) (P.store pages.new) (sheaf_in left)
-        (sheaf_in right) result }
-    ensures none { length right.units.items ≡ 0 → KeepsWord (P.store pages.new)
+    ensures few { 0 < length right.loose_slots.items
+        → JoinsFew 10880 (P.store pages.old) (P.store pages.new) (model_in left)
+        (model_in right) result }
+    ensures none { length right.loose_slots.items ≡ 0 → KeepsWord (P.store pages.new)
         → MatchResult result
         (λ both. (both ≡ left) × MakesUpTo (P.store pages.old) (P.store pages.new) 0)
         (λ e. MakesUpTo (P.store pages.old) (P.store pages.new) 0) }
     ensures turns { (base : ℕ) (low : List ℕ) (between high : Option (List ℕ))
         (first last : List Entry) (left_pages right_pages : List ℕ)
-        → IsHeld (P.store pages.old) base low between first left_pages (sheaf_in left)
-        → IsBehind (P.store pages.old) base between high last right_pages (sheaf_in right)
+        → IsHeld (P.store pages.old) base low between first left_pages (model_in left)
+        → IsBehind (P.store pages.old) base between high last right_pages (model_in right)
         → IsUpTo low between
         → Turns (P.store pages.old) (P.store pages.new) base low high (first ++ last)
         (left_pages ++ right_pages) result }
 {
-    if right.units.is_empty() {
+    if right.loose_slots.is_empty() {
         return Ok(left);
     }
     meet(alloc, pages, left, right)

@@ -10,7 +10,7 @@ mod in_page;
 mod joining;
 pub mod laws;
 mod lookup;
-mod loose;
+mod node;
 mod one_child;
 mod opening;
 mod pages;

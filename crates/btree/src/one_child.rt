@@ -1,22 +1,22 @@
 // A branch of which one child changes: it is copied, with another page or other children in it.
 ghost use Rattle.std.specs.Prelude.{◌≡◌, ◌<◌, ◌≤◌, ◌+◌, ◌-◌, ◌∷◌, ◌++◌, [], ⊤, ℕ, true, min, List, Option, length, map, slice_index_or, MatchOption};
 ghost use Rattle.page.specs.ChildPage.{exchanged};
-ghost use Rattle.page.specs.Content.{Arm, IsBranch};
+ghost use Rattle.page.specs.Content.{Pivot, IsBranch};
 ghost use Rattle.btree.specs.Change.{edit_keys};
 ghost use Rattle.btree.specs.EditView.{edit_in};
 ghost use Rattle.btree.specs.Few.{GivesFew};
 ghost use Rattle.btree.specs.Keys.{Entry, IsUnder, Rises};
-ghost use Rattle.btree.specs.Loose.{Stub, arm_stub, under_key};
-ghost use Rattle.btree.specs.LooseView.{stub_in};
+ghost use Rattle.btree.specs.Loose.{Slot, pivot_slot, under_key};
+ghost use Rattle.btree.specs.LooseView.{slot_in};
 ghost use Rattle.btree.specs.OneChild.{AreAt, IsAmid, IsAround, IsPageOf};
 ghost use Rattle.btree.specs.Store.{Grows, Store};
-ghost use Rattle.btree.specs.Turn.{IsHeld, Sheaf, Turns, sheaf_in};
+ghost use Rattle.btree.specs.Turn.{IsHeld, NodeModel, Turns, model_in};
 
-use crate::cutting::{ROOM, THIRD, go_into_page, is_over, units_within};
+use crate::cutting::{ROOM, THIRD, go_into_page, is_over, loose_slots_within};
 use crate::editing::Edit;
 use crate::joining::QUARTER;
-use crate::loose::{Loose, Unit, page_below, push_unit};
-use crate::parts::{child_unit, children_of};
+use crate::node::{LooseNode, LooseSlot, page_below, push_loose_slot};
+use crate::parts::{child_loose_slot, children_of};
 use crate::search::{branch_key, child_of_key, high_bound, is_within};
 use crate::{Pages, TreeFault};
 use key_order::compare_keys;
@@ -47,16 +47,16 @@ pub(crate) fn child_of_all(branch: &Branch, edits: &[Edit<'_>]) -> Option<usize>
 }
 
 /// The page of one child that stands at this height, and of nothing else.
-pub(crate) fn page_of_one(below: &Loose, rank: u32) -> Option<u32>
-    ensures { MatchOption result ⊤ (λ page. IsPageOf rank page (sheaf_in below.now)) }
+pub(crate) fn page_of_one(below: &LooseNode, rank: u32) -> Option<u32>
+    ensures { MatchOption result ⊤ (λ page. IsPageOf rank page (model_in below.now)) }
 {
     if below.rank != rank {
         return None;
     }
-    if below.units.len() != 1 {
+    if below.loose_slots.len() != 1 {
         return None;
     }
-    match page_below(&below.units[0]) {
+    match page_below(&below.loose_slots[0]) {
         Some(page) => Some(page),
         None => None,
     }
@@ -69,24 +69,24 @@ fn write_made<P: Pages>(
     made: Branch,
     rank: u32,
     low: &[u8],
-) -> Result<Loose, TreeFault>
+) -> Result<LooseNode, TreeFault>
     requires range { rank < 4294967295 }
     ensures grows { Grows (P.store pages.old) (P.store pages.new) }
     ensures few { 6 + length low.now ≤ 1360
         → GivesFew (P.store pages.old) (P.store pages.new) (rank + 1) 1360 1 result }
     ensures turns { (base : ℕ) (high : Option (List ℕ)) (entries : List Entry) (reached : List ℕ)
         → IsHeld (P.store pages.old) base low.now high entries reached
-        (record { rank = rank; stubs = map arm_stub (under_key low.now made) })
+        (record { rank = rank; slots = map pivot_slot (under_key low.now made) })
         → base < rank → IsBranch made → 6 + length low.now ≤ 1360
         → Turns (P.store pages.old) (P.store pages.new) base low.now high entries reached result }
 {
     let key = Vec::from_slice(alloc, low)?;
-    let written = pages.fresh(PageContent::Branch(made))?;
-    let mut units = Vec::new(alloc);
-    push_unit(&mut units, child_unit(key, written))?;
-    Ok(Loose {
+    let written = pages.allocate(PageContent::Branch(made))?;
+    let mut loose_slots = Vec::new(alloc);
+    push_loose_slot(&mut loose_slots, child_loose_slot(key, written))?;
+    Ok(LooseNode {
         rank: rank + 1,
-        units,
+        loose_slots,
         fills: false,
     })
 }
@@ -100,7 +100,7 @@ pub(crate) fn write_branch<P: Pages>(
     page: u32,
     rank: u32,
     low: &[u8],
-) -> Result<Loose, TreeFault>
+) -> Result<LooseNode, TreeFault>
     requires sound { IsBranch branch.now }
     requires place { at < length branch.now }
     requires range { rank < 4294967295 }
@@ -108,7 +108,7 @@ pub(crate) fn write_branch<P: Pages>(
     ensures few { 6 + length low.now ≤ 1360
         → GivesFew (P.store pages.old) (P.store pages.new) (rank + 1) 1360 1 result }
     ensures turns { (base : ℕ) (high : Option (List ℕ)) (entries : List Entry) (reached : List ℕ)
-        (below : Sheaf) → IsPageOf rank page below
+        (below : NodeModel) → IsPageOf rank page below
         → IsAmid (P.store pages.old) base low.now high branch.now at rank entries reached below
         → base < rank → 6 + length low.now ≤ 1360
         → Turns (P.store pages.old) (P.store pages.new) base low.now high entries reached result }
@@ -128,46 +128,52 @@ pub(crate) fn place_behind(branch: &Branch, at: usize) -> usize
 }
 
 // The key of a cell or child, by its place.
-fn unit_key(units: &[Unit], i: usize) -> &[u8]
-    requires { i < length units.now }
-    ensures { (s : Stub) → result.now ≡ (slice_index_or (map stub_in units.now) i s).key }
+fn loose_slot_key(loose_slots: &[LooseSlot], i: usize) -> &[u8]
+    requires { i < length loose_slots.now }
+    ensures { (s : Slot) → result.now ≡ (slice_index_or (map slot_in loose_slots.now) i s).key }
 {
-    units[i].key.as_slice()
+    loose_slots[i].key.as_slice()
 }
 
 // Whether the first key is above that of the child before a place, and the last one below that of the child at another.
-fn are_between(branch: &Branch, from: usize, to: usize, units: &[Unit]) -> bool
+fn are_between(branch: &Branch, from: usize, to: usize, loose_slots: &[LooseSlot]) -> bool
     requires some { 0 < from }
     requires order { from ≤ to }
     requires within { to ≤ length branch.now }
-    ensures some { result ≡ true → 0 < length units.now }
-    ensures first { (s : Stub) (d : Arm) → result ≡ true → IsUnder
-        (slice_index_or branch.now (from - 1) d).key (slice_index_or (map stub_in units.now) 0 s).key }
-    ensures last { (s : Stub) (d : Arm) → result ≡ true → to < length branch.now → IsUnder
-        (slice_index_or (map stub_in units.now) (length units.now - 1) s).key
+    ensures some { result ≡ true → 0 < length loose_slots.now }
+    ensures first { (s : Slot) (d : Pivot) → result ≡ true → IsUnder
+        (slice_index_or branch.now (from - 1) d).key (slice_index_or (map slot_in loose_slots.now) 0 s).key }
+    ensures last { (s : Slot) (d : Pivot) → result ≡ true → to < length branch.now → IsUnder
+        (slice_index_or (map slot_in loose_slots.now) (length loose_slots.now - 1) s).key
         (slice_index_or branch.now to d).key }
 {
-    let len = units.len();
+    let len = loose_slots.len();
     if len == 0 {
         return false;
     }
-    if !is_over(unit_key(units, 0), Some(branch_key(branch, from - 1))) {
+    if !is_over(
+        loose_slot_key(loose_slots, 0),
+        Some(branch_key(branch, from - 1)),
+    ) {
         return false;
     }
-    is_within(unit_key(units, len - 1), high_bound(branch, to - 1, None))
+    is_within(
+        loose_slot_key(loose_slots, len - 1),
+        high_bound(branch, to - 1, None),
+    )
 }
 
 // Whether these go into a branch between what stands before one place and what stands at another and behind it, under a
 // key, and are enough for a page with that.
-fn find_room(branch: &Branch, from: usize, to: usize, low: &[u8], units: &[Unit]) -> bool
+fn find_room(branch: &Branch, from: usize, to: usize, low: &[u8], loose_slots: &[LooseSlot]) -> bool
     requires sound { IsBranch branch.now }
     requires some { 0 < from }
     requires order { from ≤ to }
     requires within { to ≤ length branch.now }
-    ensures { (arms : List Arm) → map stub_in units.now ≡ map arm_stub arms → result ≡ true
-        → IsBranch (exchanged from to arms branch.now) }
+    ensures { (pivots : List Pivot) → map slot_in loose_slots.now ≡ map pivot_slot pivots → result ≡ true
+        → IsBranch (exchanged from to pivots branch.now) }
 {
-    if !are_between(branch, from, to, units) {
+    if !are_between(branch, from, to, loose_slots) {
         return false;
     }
     let behind = branch.size() - branch.start(to);
@@ -182,21 +188,27 @@ fn find_room(branch: &Branch, from: usize, to: usize, low: &[u8], units: &[Unit]
     if beside > ROOM {
         return false;
     }
-    if units_within(units, ROOM - beside) < units.len() {
+    if loose_slots_within(loose_slots, ROOM - beside) < loose_slots.len() {
         return false;
     }
-    go_into_page(units)
+    go_into_page(loose_slots)
 }
 
 /// Whether a branch has room, in one page, for what stands in place of a child and those beside it.
-pub(crate) fn go_between(branch: &Branch, at: usize, rank: u32, low: &[u8], amid: &Loose) -> bool
+pub(crate) fn go_between(
+    branch: &Branch,
+    at: usize,
+    rank: u32,
+    low: &[u8],
+    amid: &LooseNode,
+) -> bool
     requires sound { IsBranch branch.now }
     requires place { at < length branch.now }
     ensures rank { result ≡ true → (amid.now.rank ≡ rank) × (rank < 4294967295) }
     ensures behind { result ≡ true → 1 < at }
-    ensures sound { (arms : List Arm) → map stub_in amid.now.units.items ≡ map arm_stub arms
+    ensures sound { (pivots : List Pivot) → map slot_in amid.now.loose_slots.items ≡ map pivot_slot pivots
         → result ≡ true
-        → IsBranch (exchanged (at - 1) (min (at + 2) (length branch.now)) arms branch.now) }
+        → IsBranch (exchanged (at - 1) (min (at + 2) (length branch.now)) pivots branch.now) }
 {
     if amid.rank != rank || rank == u32::MAX || at < 2 {
         return false;
@@ -206,7 +218,7 @@ pub(crate) fn go_between(branch: &Branch, at: usize, rank: u32, low: &[u8], amid
         at.saturating_sub(1),
         place_behind(branch, at),
         low,
-        &amid.units,
+        &amid.loose_slots,
     )
 }
 
@@ -216,26 +228,26 @@ pub(crate) fn write_between<P: Pages>(
     pages: &mut P,
     branch: &Branch,
     at: usize,
-    units: &[Unit],
+    loose_slots: &[LooseSlot],
     rank: u32,
     low: &[u8],
-) -> Result<Loose, TreeFault>
+) -> Result<LooseNode, TreeFault>
     requires place { at < length branch.now }
     requires behind { 1 < at }
     requires range { rank < 4294967295 }
-    requires sound { (arms : List Arm) → map stub_in units.now ≡ map arm_stub arms
-        → IsBranch (exchanged (at - 1) (min (at + 2) (length branch.now)) arms branch.now) }
+    requires sound { (pivots : List Pivot) → map slot_in loose_slots.now ≡ map pivot_slot pivots
+        → IsBranch (exchanged (at - 1) (min (at + 2) (length branch.now)) pivots branch.now) }
     ensures grows { Grows (P.store pages.old) (P.store pages.new) }
     ensures few { 6 + length low.now ≤ 1360
         → GivesFew (P.store pages.old) (P.store pages.new) (rank + 1) 1360 1 result }
     ensures turns { (base : ℕ) (high : Option (List ℕ)) (entries : List Entry) (reached : List ℕ)
         → IsAround (P.store pages.old) base low.now high
-        (map arm_stub (under_key low.now branch.now)) (at - 1) (min (at + 2) (length branch.now))
-        rank entries reached (record { rank = rank; stubs = map stub_in units.now })
+        (map pivot_slot (under_key low.now branch.now)) (at - 1) (min (at + 2) (length branch.now))
+        rank entries reached (record { rank = rank; slots = map slot_in loose_slots.now })
         → base < rank → 6 + length low.now ≤ 1360
         → Turns (P.store pages.old) (P.store pages.new) base low.now high entries reached result }
 {
-    let children = children_of(alloc, units)?;
+    let children = children_of(alloc, loose_slots)?;
     let made = branch.with_children(
         alloc,
         at.saturating_sub(1),

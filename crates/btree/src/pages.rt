@@ -49,7 +49,7 @@ pub trait Pages {
     fn read(&mut self, page: u32) -> Result<SharedPage, TreeFault>
         ensures stays { Stays (store self.old) (store self.new) }
         ensures same { KeepsWord (store self.new) → IsSame (store self.old) (store self.new) }
-        ensures takes { (store self.new).full_takes ≡ (store self.old).full_takes }
+        ensures takes { (store self.new).failed_allocations ≡ (store self.old).failed_allocations }
         ensures full { IfErr result IsNotFull }
         ensures value { KeepsWord (store self.new)
             → IfOk result (λ shared. (store self.old).page page ≡ shared.content) }
@@ -58,7 +58,7 @@ pub trait Pages {
             → IfErr result (HasCause (store self.old) (store self.new)) };
 
     /// Writes a page that nothing reaches. Full where no page is free.
-    fn fresh(&mut self, content: PageContent) -> Result<u32, TreeFault>
+    fn allocate(&mut self, content: PageContent) -> Result<u32, TreeFault>
         requires { IsFit (content_in content) }
         ensures stays { Stays (store self.old) (store self.new) }
         ensures makes { KeepsWord (store self.new) → MatchResult result

@@ -5,17 +5,17 @@ ghost use Rattle.btree.specs.Change.{Changes, edit_keys, put, removal};
 ghost use Rattle.btree.specs.EditView.{HasRoom, edit_in};
 ghost use Rattle.btree.specs.Few.{Costs, EndsTop, IsLittle, IsOneChild, GivesFew, chain_pages, edit_pages, levels_of};
 ghost use Rattle.btree.specs.Keys.{Each, Entry, Rises, change, sum_of};
-ghost use Rattle.btree.specs.Loose.{IsChild, Stub, child};
-ghost use Rattle.btree.specs.LooseView.{stub_in};
+ghost use Rattle.btree.specs.Loose.{IsChild, Slot, child};
+ghost use Rattle.btree.specs.LooseView.{slot_in};
 ghost use Rattle.btree.specs.Reach.{HasMap};
 ghost use Rattle.btree.specs.Reading.{IsNotFull};
 ghost use Rattle.btree.specs.Store.{Grows, IsSame, KeepsWord, Store};
 ghost use Rattle.btree.specs.Tree.{Body};
-ghost use Rattle.btree.specs.Turn.{IsHeld, Turns, sheaf_in};
+ghost use Rattle.btree.specs.Turn.{IsHeld, Turns, model_in};
 
 use crate::changing::change_below;
 use crate::editing::{Edit, edit_cells};
-use crate::loose::{Loose, page_below, units_of_cells};
+use crate::node::{LooseNode, loose_slots_of_cells, page_below};
 use crate::opening::raise;
 use crate::search::branch_child;
 use crate::{Pages, TreeFault};
@@ -30,7 +30,7 @@ fn levels_below<P: Pages>(pages: &mut P, page: u32, level: u32) -> Result<u32, T
     ensures grows { Grows (P.store pages.old) (P.store pages.new) }
     ensures same { KeepsWord (P.store pages.new)
         → IsSame (P.store pages.old) (P.store pages.new) }
-    ensures takes { (P.store pages.new).full_takes ≡ (P.store pages.old).full_takes }
+    ensures takes { (P.store pages.new).failed_allocations ≡ (P.store pages.old).failed_allocations }
     ensures full { IfErr result IsNotFull }
     ensures small { IfOk result (λ below. below ≤ 31) }
     ensures levels { (d : ℕ) (low : List ℕ) (high : Option (List ℕ)) (body : Body d)
@@ -57,31 +57,31 @@ fn levels_below<P: Pages>(pages: &mut P, page: u32, level: u32) -> Result<u32, T
 }
 
 // The page of one child alone.
-fn single_page(loose: &Loose) -> Option<u32>
-    ensures one { IfSome result (λ page. length loose.now.units.items ≡ 1) }
-    ensures page { IfSome result (λ page. (s : Stub) (rest : List Stub)
-        → map stub_in loose.now.units.items ≡ s ∷ rest → s.load ≡ child page) }
-    ensures none { IfNone result ((s : Stub) → map stub_in loose.now.units.items ≡ s ∷ []
+fn single_page(node: &LooseNode) -> Option<u32>
+    ensures one { IfSome result (λ page. length node.now.loose_slots.items ≡ 1) }
+    ensures page { IfSome result (λ page. (s : Slot) (rest : List Slot)
+        → map slot_in node.now.loose_slots.items ≡ s ∷ rest → s.load ≡ child page) }
+    ensures none { IfNone result ((s : Slot) → map slot_in node.now.loose_slots.items ≡ s ∷ []
         → IsChild s.load → ⊥) }
 {
-    if loose.units.len() != 1 {
+    if node.loose_slots.len() != 1 {
         return None;
     }
-    page_below(&loose.units[0])
+    page_below(&node.loose_slots[0])
 }
 
 // Writes cells or children up to one page, the root: 0 where there are none.
-fn write_root<P: Pages>(alloc: Global, pages: &mut P, top: Loose) -> Result<u32, TreeFault>
+fn write_root<P: Pages>(alloc: Global, pages: &mut P, top: LooseNode) -> Result<u32, TreeFault>
     ensures grows { Grows (P.store pages.old) (P.store pages.new) }
-    ensures few { (halvings : ℕ) → IsLittle (2720 * 2 ^ halvings) (sheaf_in top)
+    ensures few { (halvings : ℕ) → IsLittle (2720 * 2 ^ halvings) (model_in top)
         → Costs (P.store pages.old) (P.store pages.new) (2 * 2 ^ halvings - 1) }
-    ensures alone { IsOneChild (map stub_in top.units.items)
+    ensures alone { IsOneChild (map slot_in top.loose_slots.items)
         → Costs (P.store pages.old) (P.store pages.new) 0 }
     ensures roots { (entries : List Entry) (reached : List ℕ)
-        → IsHeld (P.store pages.old) 0 [] None entries reached (sheaf_in top)
+        → IsHeld (P.store pages.old) 0 [] None entries reached (model_in top)
         → Changes (P.store pages.old) (P.store pages.new) entries reached result }
 {
-    if top.units.is_empty() {
+    if top.loose_slots.is_empty() {
         return Ok(0);
     }
     if top.rank > LEVELS {
@@ -102,7 +102,7 @@ fn first_cells<P: Pages>(
     alloc: Global,
     pages: &mut P,
     edits: &[Edit<'_>],
-) -> Result<Loose, TreeFault>
+) -> Result<LooseNode, TreeFault>
     requires { Each HasRoom edits.now }
     ensures grows { Grows (P.store pages.old) (P.store pages.new) }
     ensures few { length edits.now ≡ 1 → GivesFew (P.store pages.old) (P.store pages.new) 0 5440
@@ -112,10 +112,10 @@ fn first_cells<P: Pages>(
 {
     let mut cells = Vec::new(alloc);
     edit_cells(alloc, pages, &mut cells, edits)?;
-    let units = units_of_cells(alloc, &cells)?;
-    Ok(Loose {
+    let loose_slots = loose_slots_of_cells(alloc, &cells)?;
+    Ok(LooseNode {
         rank: 0,
-        units,
+        loose_slots,
         fills: true,
     })
 }
@@ -126,7 +126,7 @@ fn change_root<P: Pages>(
     pages: &mut P,
     root: u32,
     edits: &[Edit<'_>],
-) -> Result<Loose, TreeFault>
+) -> Result<LooseNode, TreeFault>
     requires { Each HasRoom edits.now }
     ensures grows { Grows (P.store pages.old) (P.store pages.new) }
     ensures few { (before : List ℕ) (entries : List Entry)

@@ -7,7 +7,7 @@ ghost use Rattle.btree.specs.Store.{Grows, IsSame, KeepsWord, Store};
 ghost use Rattle.btree.specs.Tree.{Body, IsTree, entries_of};
 ghost use Rattle.btree.specs.Calls.{Yields};
 ghost use Rattle.btree.specs.declared.scanning.Filling.{Filling};
-ghost use Rattle.btree.specs.Scan.{Fills, HasRoom, Holds, within};
+ghost use Rattle.btree.specs.Scan.{Fills, HasRoom, HoldsBatch, within};
 
 use crate::folding::{Bounds, Fold, fold_entries};
 use crate::{Pages, TreeFault};
@@ -101,12 +101,12 @@ pub fn scan<P: Pages>(
     ensures grows { Grows (P.store pages.old) (P.store pages.new) }
     ensures same { KeepsWord (P.store pages.new)
         → IsSame (P.store pages.old) (P.store pages.new) }
-    ensures takes { (P.store pages.new).full_takes ≡ (P.store pages.old).full_takes }
+    ensures takes { (P.store pages.new).failed_allocations ≡ (P.store pages.old).failed_allocations }
     ensures full { IfErr result IsNotFull }
-    ensures empty { root ≡ 0 → MatchResult result (Holds range.entry.limit []) (λ e. ⊥) }
+    ensures empty { root ≡ 0 → MatchResult result (HoldsBatch range.entry.limit []) (λ e. ⊥) }
     ensures scans { (d : ℕ) (body : Body d) → IsTree (P.store pages.old) root d body
         → Yields (P.store pages.old) (P.store pages.new)
-        (λ batch. Holds range.entry.limit (within range.entry (entries_of d body)) batch)
+        (λ batch. HoldsBatch range.entry.limit (within range.entry (entries_of d body)) batch)
         result }
 {
     let mut filling = Filling {

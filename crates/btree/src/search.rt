@@ -2,8 +2,8 @@
 ghost use Rattle.std.specs.Prelude.{◌≡◌, ◌<◌, ◌≤◌, ◌+◌, ◌-◌, ℕ, true, length, slice_index_or, MatchBool};
 ghost use Rattle.std.specs.Option.{option_map};
 ghost use Rattle.btree.specs.Keys.{IsBetween, IsPast, IsWithin};
-ghost use Rattle.page.specs.Content.{Arm, Item, leaf as leaf_content, branch as branch_content};
-ghost use Rattle.btree.specs.View.{content_in, item_in, arm_in};
+ghost use Rattle.page.specs.Content.{Pivot, Item, leaf as leaf_content, branch as branch_content};
+ghost use Rattle.btree.specs.View.{content_in, item_in, pivot_in};
 ghost use Rattle.btree.specs.Search.{IsPlace, IsEndPlace, IsChildPlace, LieBetween};
 
 use key_order::compare_keys;
@@ -29,7 +29,7 @@ pub(crate) fn leaf_key(leaf: &Leaf, i: usize) -> &[u8]
 /// A child of a branch, by its place.
 pub(crate) fn branch_child(branch: &Branch, i: usize) -> Child<'_>
     requires { i < length branch.now }
-    ensures { (d : Arm) → arm_in result ≡ slice_index_or branch.now i d }
+    ensures { (d : Pivot) → pivot_in result ≡ slice_index_or branch.now i d }
 {
     branch.child(i)
 }
@@ -37,7 +37,7 @@ pub(crate) fn branch_child(branch: &Branch, i: usize) -> Child<'_>
 /// The key of a child, by its place.
 pub(crate) fn branch_key(branch: &Branch, i: usize) -> &[u8]
     requires { i < length branch.now }
-    ensures { (d : Arm) → result.now ≡ (slice_index_or branch.now i d).key }
+    ensures { (d : Pivot) → result.now ≡ (slice_index_or branch.now i d).key }
 {
     branch.key(i)
 }
@@ -161,7 +161,7 @@ pub(crate) fn lies_between(content: &PageContent, low: &[u8], high: Option<&[u8]
 pub fn low_bound<'a>(branch: &'a Branch, at: usize, low: &'a [u8]) -> &'a [u8]
     requires { at < length branch.now }
     ensures first { at ≡ 0 → result.now ≡ low.now }
-    ensures later { (d : Arm) → 0 < at → result.now ≡ (slice_index_or branch.now at d).key }
+    ensures later { (d : Pivot) → 0 < at → result.now ≡ (slice_index_or branch.now at d).key }
 {
     if at == 0 { low } else { branch_key(branch, at) }
 }
@@ -171,7 +171,7 @@ pub fn high_bound<'a>(branch: &'a Branch, at: usize, high: Option<&'a [u8]>) -> 
     requires { at < length branch.now }
     ensures last { length branch.now ≤ at + 1
         → option_map (λ b. b.now) result ≡ option_map (λ b. b.now) high.entry }
-    ensures inner { (d : Arm) → at + 1 < length branch.now
+    ensures inner { (d : Pivot) → at + 1 < length branch.now
         → option_map (λ b. b.now) result ≡ Some (slice_index_or branch.now (at + 1) d).key }
 {
     let len = branch.len();

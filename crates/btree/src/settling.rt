@@ -6,27 +6,27 @@ ghost use Rattle.btree.specs.Change.{IsBehind};
 ghost use Rattle.btree.specs.Few.{SettlesFew};
 ghost use Rattle.btree.specs.Keys.{Entry, IsNotUnder};
 ghost use Rattle.btree.specs.Loose.{child};
-ghost use Rattle.btree.specs.LooseView.{stub_in};
+ghost use Rattle.btree.specs.LooseView.{slot_in};
 ghost use Rattle.btree.specs.Store.{Grows, HasCause, IsAt, IsSame, KeepsWord};
-ghost use Rattle.btree.specs.Turn.{IsHeld, IsUpTo, Turns, sheaf_in};
+ghost use Rattle.btree.specs.Turn.{IsHeld, IsUpTo, Turns, model_in};
 
 use crate::joining::{is_full, meet, meet_behind};
-use crate::loose::{Loose, Unit, page_below};
+use crate::node::{LooseNode, LooseSlot, page_below};
 use crate::{Pages, TreeFault};
 use page::PageContent;
 use std::alloc::Global;
 
 // The bytes that the page of a child has.
-fn bytes_below<P: Pages>(pages: &mut P, unit: &Unit) -> Result<usize, TreeFault>
+fn bytes_below<P: Pages>(pages: &mut P, loose_slot: &LooseSlot) -> Result<usize, TreeFault>
     ensures grows { Grows (P.store pages.old) (P.store pages.new) }
     ensures same { KeepsWord (P.store pages.new)
         → IsSame (P.store pages.old) (P.store pages.new) }
     ensures cause { KeepsWord (P.store pages.new)
-        → ((page : ℕ) → (stub_in unit.now).load ≡ child page
+        → ((page : ℕ) → (slot_in loose_slot.now).load ≡ child page
         → (content : Content) × IsAt (P.store pages.old) page content)
         → IfErr result (HasCause (P.store pages.old) (P.store pages.new)) }
 {
-    let Some(page) = page_below(unit) else {
+    let Some(page) = page_below(loose_slot) else {
         return Ok(0);
     };
     let shared = pages.read(page)?;
@@ -41,21 +41,21 @@ fn bytes_below<P: Pages>(pages: &mut P, unit: &Unit) -> Result<usize, TreeFault>
 // stands at their height goes between them as it is.
 fn goes_to_the_left<P: Pages>(
     pages: &mut P,
-    left: &Loose,
-    below: &Loose,
-    right: &Loose,
+    left: &LooseNode,
+    below: &LooseNode,
+    right: &LooseNode,
 ) -> Result<bool, TreeFault>
     ensures grows { Grows (P.store pages.old) (P.store pages.new) }
     ensures same { KeepsWord (P.store pages.new)
         → IsSame (P.store pages.old) (P.store pages.new) }
-    ensures some { IfOk result (λ goes. goes ≡ true → 0 < length left.now.units.items) }
+    ensures some { IfOk result (λ goes. goes ≡ true → 0 < length left.now.loose_slots.items) }
     ensures cause { (base : ℕ) (low mid : List ℕ) (between high : Option (List ℕ))
         (first last : List Entry) (left_pages right_pages : List ℕ)
-        → IsHeld (P.store pages.old) base low (Some mid) first left_pages (sheaf_in left.now)
-        → IsBehind (P.store pages.old) base between high last right_pages (sheaf_in right.now)
+        → IsHeld (P.store pages.old) base low (Some mid) first left_pages (model_in left.now)
+        → IsBehind (P.store pages.old) base between high last right_pages (model_in right.now)
         → Yields (P.store pages.old) (P.store pages.new) (λ goes. ⊤) result }
 {
-    if left.units.is_empty() || right.units.is_empty() {
+    if left.loose_slots.is_empty() || right.loose_slots.is_empty() {
         return Ok(false);
     }
     if below.rank == left.rank && below.rank == right.rank {
@@ -64,8 +64,8 @@ fn goes_to_the_left<P: Pages>(
     if is_full(below) {
         return Ok(false);
     }
-    let before = bytes_below(pages, &left.units[left.units.len() - 1])?;
-    let behind = bytes_below(pages, &right.units[0])?;
+    let before = bytes_below(pages, &left.loose_slots[left.loose_slots.len() - 1])?;
+    let behind = bytes_below(pages, &right.loose_slots[0])?;
     Ok(before < behind)
 }
 
@@ -74,18 +74,18 @@ fn goes_to_the_left<P: Pages>(
 pub(crate) fn settle<P: Pages>(
     alloc: Global,
     pages: &mut P,
-    left: Loose,
-    below: Loose,
-    right: Loose,
-) -> Result<Loose, TreeFault>
+    left: LooseNode,
+    below: LooseNode,
+    right: LooseNode,
+) -> Result<LooseNode, TreeFault>
     ensures grows { Grows (P.store pages.old) (P.store pages.new) }
-    ensures few { SettlesFew (P.store pages.old) (P.store pages.new) (sheaf_in left)
-        (sheaf_in below) (sheaf_in right) result }
+    ensures few { SettlesFew (P.store pages.old) (P.store pages.new) (model_in left)
+        (model_in below) (model_in right) result }
     ensures turns { (base : ℕ) (low mid : List ℕ) (between high : Option (List ℕ))
         (first amid last : List Entry) (left_pages mid_pages right_pages : List ℕ)
-        → IsHeld (P.store pages.old) base low (Some mid) first left_pages (sheaf_in left)
-        → IsHeld (P.store pages.old) base mid between amid mid_pages (sheaf_in below)
-        → IsBehind (P.store pages.old) base between high last right_pages (sheaf_in right)
+        → IsHeld (P.store pages.old) base low (Some mid) first left_pages (model_in left)
+        → IsHeld (P.store pages.old) base mid between amid mid_pages (model_in below)
+        → IsBehind (P.store pages.old) base between high last right_pages (model_in right)
         → IsNotUnder mid low → IsUpTo mid between → IsUpTo mid high
         → Turns (P.store pages.old) (P.store pages.new) base low high (first ++ (amid ++ last))
         (left_pages ++ (mid_pages ++ right_pages)) result }

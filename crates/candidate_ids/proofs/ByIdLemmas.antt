@@ -61,8 +61,8 @@ never_missing v t e alone =
     either false false e = absurd cc
 
 pub if_some_on : {X : Type 0} {P Q : X → Type 0} (o : Option X) → ((x : X) → P x → Q x) → IfSome o P → IfSome o Q
-if_some_on None on h = h
-if_some_on (Some x) on h = on x h
+if_some_on None extends h = h
+if_some_on (Some x) extends h = extends x h
 
 -- ---- one condition among others
 

@@ -75,8 +75,8 @@ last_matches [] f d e = e
 last_matches (x ∷ xs) f d e = by (matches x d) (one_matches (xs ++ f ∷ []) d) (one_matches xs d) (matches f d) (λ h. last_matches xs f d h) e
   where
     by : (x last rest f : Bool) → ((f || rest) ≡ true → last ≡ true) → (f || (x || rest)) ≡ true → (x || last) ≡ true
-    by true last rest f on e = refl
-    by false last rest f on e = on e
+    by true last rest f extends e = refl
+    by false last rest f extends e = extends e
 
 module _ (c : Collection) (filters : List Conditions) (before : List (List ℕ)) where
   -- what one of those filters doesn't match that are left or walked by, is told
@@ -95,8 +95,8 @@ module _ (c : Collection) (filters : List Conditions) (before : List (List ℕ))
       first_match (x ∷ xs) d e = by (matches x d) (one_matches xs d) (one_matches (xs ++ ws) d) (λ h. first_match xs d h) e
         where
           by : (x rest more : Bool) → (rest ≡ true → more ≡ true) → (x || rest) ≡ true → (x || more) ≡ true
-          by true rest more on e = refl
-          by false rest more on e = on e
+          by true rest more extends e = refl
+          by false rest more extends e = extends e
 
   -- the next one is walked by
   pub walks_by : (rest ws : List Conditions) (f : Conditions) (texts : List (List ℕ)) → AreToldBut ((f ∷ rest) ++ ws) texts

@@ -10,7 +10,7 @@ ghost use Rattle.asked_documents.specs.Asking.{IsAsked};
 use crate::alternatives::ids_served;
 use crate::by_id::put_ids;
 use crate::id_set::IdSet;
-use asked_documents::Selects;
+use asked_documents::DocumentPredicate;
 use collections::Collections;
 use entries::Catalogued;
 use filter::Filter;
@@ -66,7 +66,7 @@ fn ids_matched<D: Disk>(
 
 /// Puts the texts of the `_id`s of the documents that one of the filters matches by which documents are looked for behind others, and
 /// the filters whose `_id`s aren't told so behind other filters. False where there is a filter less than is said.
-fn put_all_matched<'a, D: Disk, S: Selects>(
+fn put_all_matched<'a, D: Disk, S: DocumentPredicate>(
     alloc: Global,
     file: &mut Collections<D>,
     home: &Catalogued,
@@ -97,7 +97,7 @@ fn put_all_matched<'a, D: Disk, S: Selects>(
 }
 
 /// What tells the documents that are looked for: their `_id`s, as far as they can be told without a walk, and the filters of the others.
-pub fn told_in<'a, D: Disk, S: Selects>(
+pub fn told_in<'a, D: Disk, S: DocumentPredicate>(
     alloc: Global,
     file: &mut Collections<D>,
     home: &Catalogued,
@@ -126,7 +126,7 @@ pub fn told_in<'a, D: Disk, S: Selects>(
 }
 
 /// The ascending texts of `_id`s among which are those of all documents that are looked for, where they can be told without a walk.
-pub fn asked_ids<D: Disk, S: Selects>(
+pub fn asked_ids<D: Disk, S: DocumentPredicate>(
     alloc: Global,
     file: &mut Collections<D>,
     home: &Catalogued,

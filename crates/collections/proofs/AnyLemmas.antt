@@ -13,7 +13,7 @@ use Rattle.entries.specs.State.{Collection}
 use Rattle.index.specs.View.{texts_of}
 use Rattle.entries.specs.StateEntries.{Spells}
 use Rattle.entries.proofs.SpelledLaws.{spelled_once}
-use Rattle.collections.specs.Calls.{GoesFrom, IsUnchanged, Reads}
+use Rattle.collections.specs.Calls.{ExtendsTurn, IsUnchanged, Reads}
 use Rattle.collections.specs.OtherKeys.{TellsOf, any_other_key, is_taken}
 use Rattle.collections.specs.Standing.{HasState, IsTurnOf}
 use Rattle.collections.specs.State.{State}
@@ -23,7 +23,7 @@ use Rattle.collections.proofs.LawLemmas.{goes_from_itself, goes_further}
 
 -- Looks were taken that change nothing, and the test comes to the one that is left.
 pub record LooksOn {D : Type 0} (history : D → History) (edits : List Edit) (test rest : List Entry → Bool) (old new : State D) : Type 0 where
-  pub on : GoesFrom history old new
+  pub extends : ExtendsTurn history old new
   pub unchanged : IsUnchanged history old new
   pub same : (start now : List Collection) → HasState history old start now → HasState history new start now
   pub left : KeepsWord (disk_history history new) → (start now : List Collection) → HasState history old start now → (entries : List Entry) → Spells entries now
@@ -31,13 +31,19 @@ pub record LooksOn {D : Type 0} (history : D → History) (edits : List Edit) (t
 
 module _ {D : Type 0} (history : D → History) (edits : List Edit) (test : List Entry → Bool) where
   pub looks_begin : (old : State D) → LooksOn history edits test test old old
-  looks_begin old = record { on = goes_from_itself history old; unchanged = refl; same = λ start now has. has; left = λ k start now has entries spells. refl }
+  looks_begin old = record {
+    extends = goes_from_itself history old;
+    unchanged = refl;
+    same = λ start now has. has;
+    left = λ k start now has entries spells.
+        refl;
+  }
 
   -- what is left is the same as this
   pub looks_skip : (rest later : List Entry → Bool) (old new : State D) → LooksOn history edits test rest old new
       → ((entries : List Entry) → rest entries ≡ later entries) → LooksOn history edits test later old new
   looks_skip rest later old new far same = record {
-    on = far.on;
+    extends = far.extends;
     unchanged = far.unchanged;
     same = far.same;
     left = λ k start now has entries spells. far.left k start now has entries spells ∙ same (change edits entries);
@@ -47,20 +53,20 @@ module _ {D : Type 0} (history : D → History) (edits : List Edit) (test : List
       → rest entries ≡ (one entries || later entries)) where
     pub looks_step : Reads history (TellsOf one edits) (Ok false) mid new → LooksOn history edits test later old new
     looks_step reads = record {
-      on = goes_further history old mid new far.on reads.on;
+      extends = goes_further history old mid new far.extends reads.extends;
       unchanged = reads.unchanged ∙ far.unchanged;
       same = λ start now has. reads.same start now (far.same start now has);
       left = λ k start now has entries spells.
           let p = reads.answers k start now (far.same start now has) in
           let one_map : p.entries ≡ entries = (spelled_once now p.state).1 p.entries entries p.spells spells in
           let none : one (change edits entries) ≡ false = ap (λ (xs : List Entry). one (change edits xs)) (sym one_map) ∙ sym p.right in
-          far.left (word_before history mid new reads.on k) start now has entries spells ∙ split (change edits entries)
+          far.left (word_before history mid new reads.extends k) start now has entries spells ∙ split (change edits entries)
           ∙ ap (λ (b : Bool). b || later (change edits entries)) none;
     }
 
     pub looks_found : Reads history (TellsOf one edits) (Ok true) mid new → Reads history (TellsOf test edits) (Ok true) old new
     looks_found reads = record {
-      on = goes_further history old mid new far.on reads.on;
+      extends = goes_further history old mid new far.extends reads.extends;
       unchanged = reads.unchanged ∙ far.unchanged;
       same = λ start now has. reads.same start now (far.same start now has);
       answers = λ k start now has.
@@ -69,17 +75,17 @@ module _ {D : Type 0} (history : D → History) (edits : List Edit) (test : List
             entries = p.entries;
             spells = p.spells;
             state = p.state;
-            right = sym (far.left (word_before history mid new reads.on k) start now has p.entries p.spells ∙ split (change edits p.entries)
+            right = sym (far.left (word_before history mid new reads.extends k) start now has p.entries p.spells ∙ split (change edits p.entries)
                 ∙ ap (λ (b : Bool). b || later (change edits p.entries)) (sym p.right));
           };
     }
 
     pub looks_failed : (e : Refusal) → Reads history (TellsOf one edits) (Err e) mid new → Reads history (TellsOf test edits) (Err e) old new
     looks_failed e reads = record {
-      on = goes_further history old mid new far.on reads.on;
+      extends = goes_further history old mid new far.extends reads.extends;
       unchanged = reads.unchanged ∙ far.unchanged;
       same = λ start now has. reads.same start now (far.same start now has);
-      answers = λ k start now has. read_cause_from history old mid new far.on (word_before history mid new reads.on k) e
+      answers = λ k start now has. read_cause_from history old mid new far.extends (word_before history mid new reads.extends k) e
           (reads.answers k start now (far.same start now has));
     }
 
@@ -87,11 +93,11 @@ module _ {D : Type 0} (history : D → History) (edits : List Edit) (test : List
   pub looks_none : (rest : List Entry → Bool) (old new : State D) → is_stopped old ≡ false → LooksOn history edits test rest old new
       → ((entries : List Entry) → rest entries ≡ false) → Reads history (TellsOf test edits) (Ok false) old new
   looks_none rest old new running far none = record {
-    on = far.on;
+    extends = far.extends;
     unchanged = far.unchanged;
     same = far.same;
     answers = λ k start now has.
-        let t : IsTurnOf history old start now = has running (word_before history old new far.on k) in
+        let t : IsTurnOf history old start now = has running (word_before history old new far.extends k) in
         record {
           entries = t.after;
           spells = t.spells_now;
@@ -102,7 +108,7 @@ module _ {D : Type 0} (history : D → History) (edits : List Edit) (test : List
 
   pub looks_stopped : (old : State D) → is_stopped old ≡ true → Reads history (TellsOf test edits) (Err refusals.StorageFailed) old old
   looks_stopped old stopped =
-      record { on = goes_from_itself history old; unchanged = refl; same = λ start now has. has; answers = λ k start now has. inr (refl, inl stopped) }
+      record { extends = goes_from_itself history old; unchanged = refl; same = λ start now has. has; answers = λ k start now has. inr (refl, inl stopped) }
 
 -- ---- keys and indexes, one after the other
 

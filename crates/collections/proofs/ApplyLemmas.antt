@@ -16,7 +16,7 @@ use Rattle.pager.specs.View.{pager_history, store_of}
 use Rattle.entries.specs.State.{Collection}
 use Rattle.entries.specs.StateEntries.{Spells}
 use Rattle.collections.specs.State.{State}
-use Rattle.collections.specs.Calls.{Applies, GoesFrom, HasWriteCause, IsOfFile}
+use Rattle.collections.specs.Calls.{Applies, ExtendsTurn, HasWriteCause, IsOfFile}
 use Rattle.collections.specs.Applying.{ChangesTree, refusal_of}
 use Rattle.collections.specs.Standing.{IsTurnOf}
 use Rattle.collections.specs.View.{disk_history, is_stopped}
@@ -35,7 +35,7 @@ kind_of faults.Length = inr (inl refl)
 module _ {D : Type 0} (history : D → History) (edits : List Edit) (old : State D) where
   pub applies_stopped : is_stopped old ≡ true → Applies history edits (Err refusals.StorageFailed) old old
   applies_stopped stopped = record {
-    on = grows_itself (store_of history old.pager);
+    extends = grows_itself (store_of history old.pager);
     idle = λ none. refl;
     unchanged = refl;
     kinds = inr (inl refl);
@@ -45,7 +45,7 @@ module _ {D : Type 0} (history : D → History) (edits : List Edit) (old : State
 
   pub applies_none : edits ≡ [] → Applies history edits (Ok tt) old old
   applies_none none = record {
-    on = grows_itself (store_of history old.pager);
+    extends = grows_itself (store_of history old.pager);
     idle = λ _. refl;
     unchanged = tt;
     kinds = tt;
@@ -65,7 +65,7 @@ module _ {D : Type 0} (history : D → History) (edits : List Edit) (old : State
   applies_done pager root some grows changes =
       let new : State D = record old { pager = pager; root = root } in
       record {
-        on = grows;
+        extends = grows;
         idle = λ none. absurd (some none);
         unchanged = tt;
         kinds = tt;
@@ -85,7 +85,8 @@ module _ {D : Type 0} (history : D → History) (edits : List Edit) (old : State
   -- the pager after the change, and after what was made was taken back
   module _ (mid back : PagerState D) (e : TreeFault) (grows : Grows (store_of history old.pager) (store_of history mid))
       (changes : ChangesTree history edits old.root (Err e) old.pager mid)
-      (disk : pager_history history back ≡ pager_history history mid) (takes : (store_of history back).full_takes ≡ (store_of history mid).full_takes) where
+      (disk : pager_history history back ≡ pager_history history mid)
+      (takes : (store_of history back).failed_allocations ≡ (store_of history mid).failed_allocations) where
     abbrev new : State D
     new = record old { pager = back }
 
@@ -107,18 +108,18 @@ module _ {D : Type 0} (history : D → History) (edits : List Edit) (old : State
     cause_of after entries faults.Length same (inl cause) spells = absurd cause
     cause_of after entries faults.Length same (inr high) spells = let never : faults.Length ≡ faults.Full = high.0 in absurd cc
 
-    pub applies_failed : (edits ≡ [] → ⊥) → is_stopped old ≡ false → GoesFrom history old new
+    pub applies_failed : (edits ≡ [] → ⊥) → is_stopped old ≡ false → ExtendsTurn history old new
         → (KeepsWord (disk_history history new) → (store_of history back).made ≡ (store_of history old.pager).made)
         → (KeepsWord (disk_history history new) → (store_of history back).retired ≡ (store_of history old.pager).retired)
         → Applies history edits (Err (refusal_of e)) old new
-    applies_failed some running goes made retired = record {
-      on = goes;
+    applies_failed some running continues made retired = record {
+      extends = continues;
       idle = λ none. absurd (some none);
-      unchanged = ap (λ (tree : ℕ). not (old.root == tree)) (tree_same history old.pager back goes.stays);
+      unchanged = ap (λ (tree : ℕ). not (old.root == tree)) (tree_same history old.pager back continues.stays);
       kinds = kind_of e;
-      state = λ start before after has leads state. state_stays history old new start before goes refl made retired has;
+      state = λ start before after has leads state. state_stays history old new start before continues refl made retired has;
       cause = λ k start before after has leads state.
-          let t : IsTurnOf history old start before = has running (goes.frame k).word in
+          let t : IsTurnOf history old start before = has running (continues.frame k).word in
           cause_of after (change edits t.after) e refl (changes t.pages t.after t.turn.holds (subst (λ (h : History). KeepsWord h) disk k))
           (leads t.after t.spells_now);
     }
@@ -132,7 +133,7 @@ module _ {D : Type 0} (history : D → History) (edits : List Edit) (old : State
   applies_undone mid back e made retired grows changes undone returns orderly all_made all_retired some running =
       let r = returns old.pager orderly grows all_made all_retired in
       applies_failed mid back e grows changes (ap (λ (p : PagerState D). pager_history history p) undone)
-      (ap (λ (p : PagerState D). (store_of history p).full_takes) undone) some running r.0 (λ k. (r.1 k).made) (λ k. (r.1 k).retired)
+      (ap (λ (p : PagerState D). (store_of history p).failed_allocations) undone) some running r.0 (λ k. (r.1 k).made) (λ k. (r.1 k).retired)
 
 -- a list without members
 pub none_of : {X : Type 0} (xs : List X) → (length xs == 0) ≡ true → xs ≡ []

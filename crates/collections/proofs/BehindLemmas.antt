@@ -96,7 +96,7 @@ front_or_above (c ∷ front) (b ∷ key) a up = by (nat_cmp b c) refl up (front_
         → ((rest : List ℕ) × (b ∷ key ≡ c ∷ (front ++ rest))) ⊎ ((x : List ℕ) → IsUnder (c ∷ (front ++ x)) (b ∷ key))
     by Less e f later = absurd cc
     by Equal e f later = elim (later f) [
-      | inl goes ↦ inl (goes.0, λ i. exact_unsigned b c e i ∷ goes.1 i)
+      | inl continues ↦ inl (continues.0, λ i. exact_unsigned b c e i ∷ continues.1 i)
       | inr above ↦
           inr (λ x. ap (λ (o : Ordering). ordering_then o (key_cmp (front ++ x) key)) (nat_cmp_total.antisymm c b ∙ ap ordering_reverse e) ∙ above x)
     ]
@@ -106,7 +106,7 @@ front_or_above (c ∷ front) (b ∷ key) a up = by (nat_cmp b c) refl up (front_
 -- between two that go on from it there is no other
 pub front_between : (front key a b : List ℕ) → is_lt (key_cmp key (front ++ a)) ≡ false → IsUnder key (front ++ b) → (rest : List ℕ) × (key ≡ front ++ rest)
 front_between front key a b up under = elim (front_or_above front key a up) [
-  | inl goes ↦ goes
+  | inl continues ↦ continues
   | inr above ↦ absurd (not_under_itself key (under_trans key (front ++ b) key under (above b)))
 ]
 
@@ -115,8 +115,8 @@ pub all_told : (front a : List ℕ) (xs : List Entry) → ((x : Entry) → Among
     → length (texts_behind front xs) ≡ length xs
 all_told front a [] each = refl
 all_told front a (x ∷ xs) each =
-    let goes = each x (inl refl) in
-    ap (λ (o : Option (List ℕ)). length (option_to_list o ++ texts_behind front xs)) (ap (text_behind front) goes.1 ∙ text_there front goes.0)
+    let continues = each x (inl refl) in
+    ap (λ (o : Option (List ℕ)). length (option_to_list o ++ texts_behind front xs)) (ap (text_behind front) continues.1 ∙ text_there front continues.0)
     ∙ ap suc (all_told front a xs (λ y there. each y (inr there)))
 
 -- and no more have one than there are

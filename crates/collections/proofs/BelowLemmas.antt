@@ -28,7 +28,7 @@ use Rattle.collections.proofs.ReadingLemmas.{AnswersAs, read_cause_there, stays_
 module _ {D A X : Type 0} (history : D → History) (root : ℕ) (Is : List Collection → A → Type 0) (Q : List Collection → A → X → Type 0) (old : State D) where
   pub below_memory : (e : Refusal) → e ≡ refusals.OutOfMemory → ReadsBelow history root Is Q (Err e) old old
   below_memory e is = record {
-    on = grows_itself (store_of history old.pager);
+    extends = grows_itself (store_of history old.pager);
     unchanged = refl;
     same = λ start now has. has;
     stopped = λ so. inl is;
@@ -37,7 +37,7 @@ module _ {D A X : Type 0} (history : D → History) (root : ℕ) (Is : List Coll
 
   pub below_stopped : is_stopped old ≡ true → ReadsBelow history root Is Q (Err refusals.StorageFailed) old old
   below_stopped stopped = record {
-    on = grows_itself (store_of history old.pager);
+    extends = grows_itself (store_of history old.pager);
     unchanged = refl;
     same = λ start now has. has;
     stopped = λ so. inr (refl, inl so);
@@ -53,7 +53,7 @@ module _ {D A X : Type 0} (history : D → History) (root : ℕ) (Is : List Coll
 
   pub below_there : (r : Result X Refusal) → AnswersAs result r → ReadsBelow history root Is (λ collections asked. IsInTree P collections) r old new
   below_there r as_read = record {
-    on = looks.grows;
+    extends = looks.grows;
     unchanged = unchanged_there history P old pager result looks;
     same = stays_there history P old pager result looks;
     stopped = λ stopped. let both : true ≡ false = sym stopped ∙ running in absurd cc;
@@ -79,7 +79,7 @@ module _ {D A B X Y : Type 0} (history : D → History) (root : ℕ) (IsFirst : 
   pub below_refused : (e : Refusal) → ((collections : List Collection) (asked : B) → Is collections asked → (first : A) × IsFirst collections first)
       → ReadsBelow history root IsFirst P (Err e) old new → ReadsBelow history root Is Q (Err e) old new
   below_refused e first reads = record {
-    on = reads.on;
+    extends = reads.extends;
     unchanged = reads.unchanged;
     same = reads.same;
     stopped = reads.stopped;
@@ -90,13 +90,13 @@ module _ {D A B X Y : Type 0} (history : D → History) (root : ℕ) (IsFirst : 
       → ((collections : List Collection) (asked : B) → Is collections asked
       → (first : A) × IsFirst collections first × (P collections first x → OrMemory (Q collections asked) r))
       → ReadsBelow history root Is Q r old new
-  below_on x r reads on = record {
-    on = reads.on;
+  below_on x r reads extends = record {
+    extends = reads.extends;
     unchanged = reads.unchanged;
     same = reads.same;
     stopped = λ stopped. absurd (reads.stopped stopped);
     answers = λ k collections has asked so.
-        let f = on collections asked so in
+        let f = extends collections asked so in
         or_cause (Q collections asked) r (f.2 (reads.answers k collections has f.0 f.1));
   }
     where
@@ -106,8 +106,8 @@ module _ {D A B X Y : Type 0} (history : D → History) (root : ℕ) (IsFirst : 
 
 -- of one answer another thing
 answered : {X : Type 0} (P Q : X → Type 0) (C : Refusal → Type 0) (r : Result X Refusal) → ((x : X) → P x → Q x) → MatchResult r P C → MatchResult r Q C
-answered P Q C (Ok x) on right = on x right
-answered P Q C (Err e) on cause = cause
+answered P Q C (Ok x) extends right = extends x right
+answered P Q C (Err e) extends cause = cause
 
 refused_so : {X : Type 0} (Q : X → Type 0) (C : Refusal → Type 0) (r : Result X Refusal) → IsErrAnd r C → MatchResult r Q C
 refused_so Q C (Ok x) never = absurd never
@@ -119,13 +119,13 @@ pub below_asked : {D A X : Type 0} (history : D → History) (root : ℕ) (Is : 
     → ReadsBelow history root IsNothing (λ collections asked. P collections) r old new
     → ((collections : List Collection) (asked : A) (x : X) → Is collections asked → P collections x → Q collections asked x)
     → ReadsBelow history root Is Q r old new
-below_asked history root Is P Q old new r reads on = record {
-  on = reads.on;
+below_asked history root Is P Q old new r reads extends = record {
+  extends = reads.extends;
   unchanged = reads.unchanged;
   same = reads.same;
   stopped = reads.stopped;
   answers = λ k collections has asked so.
-      answered (P collections) (Q collections asked) (HasReadCause history old new) r (λ x right. on collections asked x so right)
+      answered (P collections) (Q collections asked) (HasReadCause history old new) r (λ x right. extends collections asked x so right)
       (reads.answers k collections has tt tt);
 }
 
@@ -145,47 +145,47 @@ module _ {D A X : Type 0} (history : D → History) (Is : List Collection → A 
   -- what has stopped was refused, and else the turn's tree has the collections of now
   of_turn : root ≡ old.root → KeepsWord (disk_history history new) → (start now : List Collection) → HasState history old start now → (asked : A)
       → Is now asked → (R : X → Type 0) → (is_stopped old ≡ false → (x : X) → P now asked x → R x) → MatchResult r R (HasReadCause history old new)
-  of_turn is k start now has asked so R on = by_stop (is_stopped old) refl
+  of_turn is k start now has asked so R extends = by_stop (is_stopped old) refl
     where
       by_stop : (b : Bool) → is_stopped old ≡ b → MatchResult r R (HasReadCause history old new)
       by_stop true stopped = refused_so R (HasReadCause history old new) r (reads.stopped stopped)
       by_stop false running =
-          answered (P now asked) R (HasReadCause history old new) r (on running)
+          answered (P now asked) R (HasReadCause history old new) r (extends running)
           (reads.answers k now (subst (λ (page : ℕ). HasBelow history old page now) (sym is)
-          (turn_has history old start now (has running (word_before history old new reads.on k)))) asked so)
+          (turn_has history old start now (has running (word_before history old new reads.extends k)))) asked so)
 
   module _ (Q : List Collection → A → X → Type 0) where
     pub asks_turn : root ≡ old.root
         → (is_stopped old ≡ false → KeepsWord (disk_history history old) → (start now : List Collection) → HasState history old start now
         → (asked : A) → Is now asked → (x : X) → P now asked x → Q now asked x)
         → ReadsOf history Is Q r old new
-    asks_turn is on = record {
-      on = reads.on;
+    asks_turn is extends = record {
+      extends = reads.extends;
       unchanged = reads.unchanged;
       same = reads.same;
       answers = λ k start now has asked so.
           of_turn is k start now has asked so (Q now asked)
-          (λ running. on running (word_before history old new reads.on k) start now has asked so);
+          (λ running. extends running (word_before history old new reads.extends k) start now has asked so);
     }
 
     pub asks_version : (version : Version) → root ≡ version.root
         → ((collections : List Collection) → HasVersion history old version collections
         → (asked : A) → Is collections asked → (x : X) → P collections asked x → Q collections asked x)
         → ReadsVersion history version Is Q r old new
-    asks_version version is on = record {
-      on = reads.on;
+    asks_version version is extends = record {
+      extends = reads.extends;
       unchanged = reads.unchanged;
       same = reads.same;
       answers = λ k collections has asked so.
-          answered (P collections asked) (Q collections asked) (HasReadCause history old new) r (on collections has asked so)
+          answered (P collections asked) (Q collections asked) (HasReadCause history old new) r (extends collections has asked so)
           (reads.answers k collections (subst (λ (page : ℕ). HasBelow history old page collections) (sym is)
-          (version_has history old version collections (word_before history old new reads.on k) has)) asked so);
+          (version_has history old version collections (word_before history old new reads.extends k) has)) asked so);
     }
 
 pub reads_turn : {D X : Type 0} (history : D → History) (P : List Collection → X → Type 0) (old new : State D) (r : Result X Refusal) (root : ℕ)
     → ReadsBelow history root IsNothing (λ now asked. P now) r old new → root ≡ old.root → Reads history P r old new
 reads_turn history P old new r root reads is = record {
-  on = reads.on;
+  extends = reads.extends;
   unchanged = reads.unchanged;
   same = reads.same;
   answers = λ k start now has.

@@ -5,15 +5,15 @@ use Rattle.btree.specs.Store.{HasNoPage}
 use Rattle.path.specs.declared.refusal.Refusal.{Refusal}
 use Rattle.path.specs.declared.refusal.Refusal.TheVariants as refusals
 use Rattle.entries.specs.State.{Collection}
-use Rattle.collections.specs.Calls.{GoesFrom, HasCause, HasFailed, HasReadCause, HasWriteCause}
+use Rattle.collections.specs.Calls.{ExtendsTurn, HasCause, HasFailed, HasReadCause, HasWriteCause}
 use Rattle.collections.specs.State.{State}
 use Rattle.collections.specs.View.{disk_history, pages_of}
 use Rattle.collections.proofs.StandingLemmas.{stopped_same}
 
 module _ {D : Type 0} (history : D → History) where
   -- the disk kept its word before
-  pub word_before : (a b : State D) → GoesFrom history a b → KeepsWord (disk_history history b) → KeepsWord (disk_history history a)
-  word_before a b goes k = (goes.frame k).word
+  pub word_before : (a b : State D) → ExtendsTurn history a b → KeepsWord (disk_history history b) → KeepsWord (disk_history history a)
+  word_before a b continues k = (continues.frame k).word
 
   -- what is a cause of a read is one of any call
   pub any_cause : (a b : State D) (e : Refusal) → HasReadCause history a b e → HasCause history a b e
@@ -25,13 +25,13 @@ module _ {D : Type 0} (history : D → History) where
   read_not_full a b e (inl is) full = let both = sym is ∙ full in cc
   read_not_full a b e (inr (is, failed)) full = let both = sym is ∙ full in cc
 
-  module _ (a b c : State D) (goes : GoesFrom history a b) (k : KeepsWord (disk_history history b)) where
+  module _ (a b c : State D) (continues : ExtendsTurn history a b) (k : KeepsWord (disk_history history b)) where
     failed_from : HasFailed history b c → HasFailed history a c
-    failed_from (inl stopped) = inl (sym (stopped_same history a.pager b.pager goes.stays) ∙ stopped)
-    failed_from (inr more) = inr (omega (arith, more, (goes.frame k).failures))
+    failed_from (inl stopped) = inl (sym (stopped_same history a.pager b.pager continues.stays) ∙ stopped)
+    failed_from (inr more) = inr (omega (arith, more, (continues.frame k).failures))
 
     full_from : HasNoPage (pages_of history b) (pages_of history c) → HasNoPage (pages_of history a) (pages_of history c)
-    full_from (inl more) = inl (omega (arith, more, (goes.frame k).full_takes))
+    full_from (inl more) = inl (omega (arith, more, (continues.frame k).failed_allocations))
     full_from (inr most) = inr most
 
     pub cause_from : (e : Refusal) → HasCause history b c e → HasCause history a c e

@@ -4,7 +4,7 @@ use Rattle.std.specs.Prelude.{◌==◌, not, Result, Ok, Err, IfErr, MatchResult
 use Rattle.page.specs.History.{History, KeepsWord, now, reads}
 use Rattle.btree.proofs.OnceLemmas.{old_trees_stay}
 use Rattle.roots.specs.Counting.{AreCounts}
-use Rattle.roots.specs.Image.{HasList, HoldsMap, StandsFor, reached_by, sheet_at, store_of as store_of_image}
+use Rattle.roots.specs.Image.{HasList, HoldsMap, StandsFor, reached_by, model_at, store_of as store_of_image}
 use Rattle.roots.specs.Store.{IsCommitted, durable_root}
 use Rattle.roots.specs.Walk.{HasCause}
 use Rattle.roots.specs.declared.counting.PageCounts.{PageCounts}
@@ -70,7 +70,7 @@ module _ {D : Type 0} (history : D → History) (old : State D) (pager : PagerSt
 
   pub counts_so : is_stopped old ≡ false → CountsPages history result old new
   counts_so running = record {
-    on = counts.grows;
+    extends = counts.grows;
     unchanged = ap (λ (tree : ℕ). not (old.root == tree)) (tree_same history old.pager pager counts.grows.stays);
     same = λ start here. state_stays history old new start here counts.grows refl (λ k. (counts.same k).made) (λ k. (counts.same k).retired);
     stays = λ k entries has. record {
@@ -92,14 +92,14 @@ has_one_count image a b counts others one two =
     let other : StandsFor image two.holds.entries = two.holds.stands in
     let both : Ok other.root ≡ Ok file.root = sym other.opens ∙ file.opens in
     let same : other.root ≡ file.root = cc in
-    let holds : HoldsMap (sheet_at image file.root) file.root other.pages two.holds.entries =
-    subst (λ (r : Root). HoldsMap (sheet_at image r) r other.pages two.holds.entries) same other.holds in
+    let holds : HoldsMap (model_at image file.root) file.root other.pages two.holds.entries =
+    subst (λ (r : Root). HoldsMap (model_at image r) r other.pages two.holds.entries) same other.holds in
     let live : file.pages ≡ other.pages =
-    (one_map (store_of_image (sheet_at image file.root)) file.root.tree file.pages other.pages one.holds.entries two.holds.entries
+    (one_map (store_of_image (model_at image file.root)) file.root.tree file.pages other.pages one.holds.entries two.holds.entries
     file.holds.map holds.map).pages_are in
     let listed : file.holds.listed.0 ≡ other.holds.listed.0 =
-    one_list (sheet_at image file.root) file.root file.pages other.pages file.holds.listed.0 other.holds.listed.0 file.holds.listed.1
-    (subst (λ (r : Root). HasList (sheet_at image r) r other.pages other.holds.listed.0) same other.holds.listed.1) in
+    one_list (model_at image file.root) file.root file.pages other.pages file.holds.listed.0 other.holds.listed.0 file.holds.listed.1
+    (subst (λ (r : Root). HasList (model_at image r) r other.pages other.holds.listed.0) same other.holds.listed.1) in
     let reached : length (reached_by file.pages file.holds.listed.0) ≡ length (reached_by other.pages other.holds.listed.0) =
     (λ i. length (reached_by (live i) (listed i))) in
     let pages : counts.pages ≡ others.pages = one.are.pages ∙ ap (λ (r : Root). max r.pages 1) (sym same) ∙ sym two.are.pages in

@@ -12,9 +12,9 @@ use Rattle.page.specs.History.{History}
 use Rattle.btree.specs.Calls.{IsBatch}
 use Rattle.btree.specs.Keys.{Each, Entry, IsBetween, IsNotUnder, IsUnder, IsWithin, Pair, Rises, entry_of, is_within, keep_if, key_cmp, window}
 use Rattle.btree.specs.Reach.{HasMap}
-use Rattle.btree.specs.Scan.{Holds, entry_in}
+use Rattle.btree.specs.Scan.{HoldsBatch, entry_in}
 use Rattle.btree.specs.Store.{HasCause as HasTreeCause, Store}
-use Rattle.btree.specs.Tree.{Body, IsFan, IsSound, IsWhole, Twig, pair_keys, pairs_of, twig_keys}
+use Rattle.btree.specs.Tree.{Body, IsFan, IsSound, IsWhole, Subtree, pair_keys, pairs_of, subtree_keys}
 use Rattle.btree.specs.declared.pages.TreeFault.{TreeFault}
 use Rattle.btree.specs.declared.scanning.Batch.{Batch}
 use Rattle.btree.proofs.FanLemmas.{fan_between, pairs_between}
@@ -49,7 +49,7 @@ each_across high [] ys below above = tt
 each_across high (x ∷ xs) ys below above = (each_map _ _ (λ y u. under_then_up_to x high y below.0 u) ys above, each_across high xs ys below.1 above)
 
 fan_rises : (d : ℕ) → ((low : List ℕ) (high : Option (List ℕ)) (body : Body d) → IsSound d low high body → Rises (pair_keys (pairs_of d body)))
-    → (high : Option (List ℕ)) (ws : List (Twig (Body d))) → IsFan (Lies d) high ws → Rises (twig_keys ws) → Each (IsWithin high) (twig_keys ws)
+    → (high : Option (List ℕ)) (ws : List (Subtree (Body d))) → IsFan (Lies d) high ws → Rises (subtree_keys ws) → Each (IsWithin high) (subtree_keys ws)
     → Rises (pair_keys (flat_map (λ w. pairs_of d w.body) ws))
 fan_rises d sub high [] fan rise within = tt
 fan_rises d sub high (w ∷ []) fan rise within =
@@ -60,7 +60,7 @@ fan_rises d sub high (w ∷ []) fan rise within =
     none [] = tt
     none (x ∷ xs) = (tt, none xs)
 fan_rises d sub high (w ∷ v ∷ ws) fan rise within =
-    let later = flat_map (λ (w : Twig (Body d)). pairs_of d w.body) (v ∷ ws) in
+    let later = flat_map (λ (w : Subtree (Body d)). pairs_of d w.body) (v ∷ ws) in
     let here : Each (λ (x : Pair). IsBetween w.key (Some v.key) x.key) (pairs_of d w.body) = pairs_between d w.key (Some v.key) w.body fan.0.1 in
     let there : Each (λ (x : Pair). IsBetween v.key high x.key) later =
     fan_between (Lies d) (pairs_of d) (λ from to body s. pairs_between d from to body s.1) high v ws fan.1 rise.1 within.1 in
@@ -166,7 +166,7 @@ window_next from (x ∷ xs) front next others rise is = elim (less_or_not (key_c
 
 -- what a batch is among the entries
 pub next_entries_are : (from : List ℕ) (limit : ℕ) (entries : List Entry) (batch : Batch) → Rises (entry_keys entries)
-    → Holds limit (window from None entries) batch → AreNextEntries from limit entries batch
+    → HoldsBatch limit (window from None entries) batch → AreNextEntries from limit entries batch
 next_entries_are from limit entries batch rise holds = record {
   is = by (option_map (λ v. v.items) batch.next) holds;
   most = few (option_map (λ v. v.items) batch.next) holds;
@@ -193,7 +193,7 @@ next_entries_are from limit entries batch rise holds = record {
 -- ---- what reading them does
 
 module _ {D X : Type 0} (history : D → History) (P Q : List Entry → X → Type 0) (old : State D) (pager : PagerState D) (result : Result X TreeFault)
-    (looks : LooksUp history old.root P result old.pager pager) (on : (entries : List Entry) (x : X) → Rises (entry_keys entries) → P entries x
+    (looks : LooksUp history old.root P result old.pager pager) (extends : (entries : List Entry) (x : X) → Rises (entry_keys entries) → P entries x
     → Q entries x) where
   abbrev new : State D
   new = record old { pager = pager }
@@ -201,14 +201,14 @@ module _ {D X : Type 0} (history : D → History) (P Q : List Entry → X → Ty
   answer : (entries : List Entry) → Rises (entry_keys entries) → (result : Result X TreeFault) (r : Result X Refusal) → AnswersAs result r
       → MatchResult result (P entries) (HasTreeCause (store_of history old.pager) (store_of history pager))
       → MatchResult r (Q entries) (HasCause history old new)
-  answer entries rise (Ok x) (Ok y) same right = subst (Q entries) same (on entries x rise right)
+  answer entries rise (Ok x) (Ok y) same right = subst (Q entries) same (extends entries x rise right)
   answer entries rise (Ok x) (Err e) same right = absurd same
   answer entries rise (Err f) (Ok y) same cause = absurd same
   answer entries rise (Err f) (Err e) same cause = subst (HasCause history old new) (sym same) (cause_there history P old pager result looks f cause)
 
   pub tree_there : (r : Result X Refusal) → AnswersAs result r → ReadsTree history Q r old new
   tree_there r as_read = record {
-    on = looks.grows;
+    extends = looks.grows;
     unchanged = changed_there history P old pager result looks;
     same = stays_there history P old pager result looks;
     takes = looks.takes;
@@ -223,7 +223,7 @@ module _ {D X : Type 0} (history : D → History) (P Q : List Entry → X → Ty
 pub tree_stopped : {D X : Type 0} (history : D → History) (Q : List Entry → X → Type 0) (old : State D) → is_stopped old ≡ true
     → ReadsTree history Q (Err refusals.StorageFailed) old old
 tree_stopped history Q old stopped = record {
-  on = grows_itself (store_of history old.pager);
+  extends = grows_itself (store_of history old.pager);
   unchanged = refl;
   same = λ start now has. has;
   takes = refl;

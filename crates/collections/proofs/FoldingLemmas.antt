@@ -93,7 +93,7 @@ module _ {F : Type 0} (makes : F → List Pairs → F → Type 0) (start now : L
 pub looks_folded : {D F : Type 0} (history : D → History) (makes : F → List Entry → F → Type 0) (start now : F) (bounds : Bounds) (root : ℕ)
     (result : Result (Unit {0}) TreeFault) (old new : PagerState D) → Grows (store_of history old) (store_of history new)
     → (KeepsStore (store_of history new) → IsSame (store_of history old) (store_of history new))
-    → (store_of history new).full_takes ≡ (store_of history old).full_takes → IfErr result IsNotFull
+    → (store_of history new).failed_allocations ≡ (store_of history old).failed_allocations → IfErr result IsNotFull
     → (root ≡ 0 → (result ≡ Ok tt) × (now ≡ start))
     → ((d : ℕ) (body : Body d) → IsTree (store_of history old) root d body
     → Yields (store_of history old) (store_of history new) (λ done. makes start (between bounds (entries_of d body)) now) result)

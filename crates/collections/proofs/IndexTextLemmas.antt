@@ -204,7 +204,7 @@ module _ (now : List Collection) (at : Indexed) (first last : List ℕ) (bounds 
     -- Where it has no text, no other behind it has one.
     none_after : text_behind front after.key ≡ None → (text : List ℕ) (x : Entry) → x.key ≡ key_under c.number i.number text → Among x at_front.rest → ⊥
     none_after none text x is there = elim (front_or_above front after.key first (from_first after after_there)) [
-      | inl goes ↦ (let e : Some goes.0 ≡ None = sym (ap (text_behind front) goes.1 ∙ text_there front goes.0) ∙ none in cc)
+      | inl continues ↦ (let e : Some continues.0 ≡ None = sym (ap (text_behind front) continues.1 ∙ text_there front continues.0) ∙ none in cc)
       | inr above ↦ lower x.key after.key (over_after x there)
           (ap (λ (k : List ℕ). key_cmp k after.key) (is ∙ sym (front_rest c.number i.number text)) ∙ above text)
     ]

@@ -7,7 +7,7 @@ use Rattle.btree.specs.Reach.{HasMap}
 use Rattle.btree.proofs.OnceLemmas.{old_trees_stay}
 use Rattle.btree.proofs.StoreLemmas.{grows_itself, grows_trans}
 use Rattle.roots.specs.Root.{no_root, root_of}
-use Rattle.roots.specs.Image.{StandsFor, sheet_at}
+use Rattle.roots.specs.Image.{StandsFor, model_at}
 use Rattle.roots.specs.Store.{IsCommitted, durable_root}
 use Rattle.roots.proofs.HeldFileLemmas.{empty_list}
 use Rattle.roots.proofs.OneMap.{one_map, one_state}
@@ -20,7 +20,7 @@ use Rattle.entries.specs.LawfulState.{IsLawfulState}
 use Rattle.entries.specs.State.{Collection}
 use Rattle.entries.specs.StateEntries.{Spells}
 use Rattle.collections.specs.State.{State}
-use Rattle.collections.specs.Laws.{GoesFromItself, GoesFurther, HasOneState, HoldsOne, LeavesStart, RestsAtStart, ZerosHoldNothing}
+use Rattle.collections.specs.Laws.{ExtendsItself, GoesFurther, HasOneState, HoldsOne, LeavesStart, RestsAtStart, ZerosHoldNothing}
 use Rattle.collections.specs.Standing.{IsTurnOf}
 use Rattle.collections.specs.View.{disk_history, is_changed}
 use Rattle.collections.proofs.StandingLemmas.{is_at, tree_same}
@@ -43,12 +43,12 @@ leaves_start history c start now running has k image is =
 -- The tree of a turn that has changed nothing is the one that it began with.
 pub rested_tree : {D : Type 0} (history : D → History) (c : State D) (start now : List Collection) (t : IsTurnOf history c start now)
     → KeepsWord (disk_history history c) → is_changed c ≡ false → (t.after ≡ t.before) × (t.pages ≡ t.live)
-rested_tree history c start now t k rests =
+rested_tree history c start now t k clean =
     let frame = t.turn.grows.frame k in
     let then_map : HasMap (store_of history t.began) (durable_root t.began.store).tree t.live t.before =
     begun_map history t.began t.live t.before t.begun frame.word in
     let same : (durable_root t.began.store).tree ≡ c.root =
-    sym (tree_same history t.began c.pager t.turn.grows.stays) ∙ sym (is_at c.root (durable_root c.pager.store).tree rests) in
+    sym (tree_same history t.began c.pager t.turn.grows.stays) ∙ sym (is_at c.root (durable_root c.pager.store).tree clean) in
     let old_map : HasMap (store_of history c.pager) c.root t.live t.before =
     subst (λ (root : ℕ). HasMap (store_of history c.pager) root t.live t.before) same
     (old_trees_stay (store_of history t.began) (store_of history c.pager) (durable_root t.began.store).tree t.live t.before frame then_map) in
@@ -56,9 +56,9 @@ rested_tree history c start now t k rests =
     (one.entries_are, one.pages_are)
 
 pub rests_at_start : {D : Type 0} (history : D → History) → RestsAtStart history
-rests_at_start history c start now running k has rests =
+rests_at_start history c start now running k has clean =
     let t : IsTurnOf history c start now = has running k in
-    let entries : t.after ≡ t.before = (rested_tree history c start now t k rests).0 in
+    let entries : t.after ≡ t.before = (rested_tree history c start now t k clean).0 in
     spells_one t.after now start t.now_state t.start_state t.spells_now (subst (λ (es : List Entry). Spells es start) (sym entries) t.spells_start)
 
 pub has_one_state : {D : Type 0} (history : D → History) → HasOneState history
@@ -97,14 +97,14 @@ zeros_hold_nothing image even odd = record {
     holds = record {
       map = inl (refl, (refl, refl));
       once = λ n. omega arith;
-      listed = ([], empty_list (sheet_at image no_root) no_root [] (refl, refl));
+      listed = ([], empty_list (model_at image no_root) no_root [] (refl, refl));
     };
   };
   spells = record { rises = search rules; same = λ entry. (λ x. x, λ x. x) };
   state = none_lawful;
 }
 
-pub goes_from_itself : {D : Type 0} (history : D → History) → GoesFromItself history
+pub goes_from_itself : {D : Type 0} (history : D → History) → ExtendsItself history
 goes_from_itself history c = grows_itself (store_of history c.pager)
 
 pub goes_further : {D : Type 0} (history : D → History) → GoesFurther history

@@ -9,21 +9,21 @@ use Rattle.pager.specs.View.{pager_history, store_of}
 use Rattle.entries.specs.State.{Collection}
 use Rattle.collections.specs.State.{State}
 use Rattle.collections.specs.declared.mark.Mark.{Mark}
-use Rattle.collections.specs.Calls.{GoesFrom}
+use Rattle.collections.specs.Calls.{ExtendsTurn}
 use Rattle.collections.specs.Marks.{IsBackAt, IsUntouched, ReturnsTo, Undoes}
 use Rattle.collections.specs.Standing.{HasState, IsTurnOf}
 use Rattle.collections.specs.View.{disk_history}
 use Rattle.collections.proofs.StandingLemmas.{begins, rests_at, state_stays, tree_same}
 
 -- back to a mark
-pub back_at : {D : Type 0} (history : D → History) (earlier new : State D) → GoesFrom history earlier new → new.root ≡ earlier.root
+pub back_at : {D : Type 0} (history : D → History) (earlier new : State D) → ExtendsTurn history earlier new → new.root ≡ earlier.root
     → (KeepsWord (disk_history history new) → (store_of history new.pager).made ≡ (store_of history earlier.pager).made)
     → (KeepsWord (disk_history history new) → (store_of history new.pager).retired ≡ (store_of history earlier.pager).retired)
     → IsBackAt history earlier new
-back_at history earlier new goes same made retired = record {
-  on = goes;
-  state = λ start then has. state_stays history earlier new start then goes same made retired has;
-  changed = (λ i. not (same i == tree_same history earlier.pager new.pager goes.stays i));
+back_at history earlier new continues same made retired = record {
+  extends = continues;
+  state = λ start then has. state_stays history earlier new start then continues same made retired has;
+  changed = (λ i. not (same i == tree_same history earlier.pager new.pager continues.stays i));
 }
 
 -- what undoing leaves as it was
@@ -40,10 +40,10 @@ pub returns_so : {D : Type 0} (history : D → History) (mark : Mark) (old : Sta
     → pager ≡ undone_to mark.pages.made mark.pages.retired old.pager → Returns history mark.pages.made mark.pages.retired old.pager pager
     → ReturnsTo history mark old (record { pager = pager; root = mark.root })
 returns_so {D = D} history mark old pager undone returns = record {
-  takes = ap (λ (p : PagerState D). p.book.full_takes) undone;
+  takes = ap (λ (p : PagerState D). p.book.failed_allocations) undone;
   untouched = untouched_so history old pager mark.root mark.pages.made mark.pages.retired undone;
-  back = λ earlier is goes.
-      let r = returns earlier.pager is.orderly goes is.made is.retired in
+  back = λ earlier is continues.
+      let r = returns earlier.pager is.orderly continues is.made is.retired in
       back_at history earlier (record { pager = pager; root = mark.root }) r.0 is.root (λ k. (r.1 k).made) (λ k. (r.1 k).retired);
 }
 
@@ -63,7 +63,7 @@ undoes_so {D = D} history old pager root made retired undone leads none empty is
     let same = untouched_so history old pager root made retired undone in
     record {
       untouched = same;
-      takes = ap (λ (p : PagerState D). p.book.full_takes) undone;
-      rests = rests_at root (stores.durable_root pager.store).tree is;
+      takes = ap (λ (p : PagerState D). p.book.failed_allocations) undone;
+      clean = rests_at root (stores.durable_root pager.store).tree is;
       state = λ start now has. begun_again history old (record { pager = pager; root = root }) made retired leads none empty same is start now has;
     }

@@ -11,7 +11,7 @@ use Rattle.std.proofs.lemmas.List.{length-map}
 use Rattle.btree.specs.Calls.{IsBatch}
 use Rattle.btree.specs.Keys.{Entry, is_within, keep_if, key_cmp, window}
 use Rattle.btree.specs.Reading.{IsNotFull}
-use Rattle.btree.specs.Scan.{Holds, entry_in}
+use Rattle.btree.specs.Scan.{HoldsBatch, entry_in}
 use Rattle.btree.specs.declared.scanning.Batch.{Batch}
 use Rattle.btree.specs.declared.scanning.Entry.{Entry as OwnEntry}
 use Rattle.btree.specs.Store.{HasCause as HasTreeCause}
@@ -36,7 +36,7 @@ use Rattle.collections.proofs.StandingLemmas.{state_stays, tree_same}
 module _ {D X : Type 0} (history : D → History) (Q : List Collection → X → Type 0) (old : State D) where
   pub reads_memory : (e : Refusal) → e ≡ refusals.OutOfMemory → Reads history Q (Err e) old old
   reads_memory e is = record {
-    on = grows_itself (store_of history old.pager);
+    extends = grows_itself (store_of history old.pager);
     unchanged = refl;
     same = λ start now has. has;
     answers = λ k start now has. inl is;
@@ -44,7 +44,7 @@ module _ {D X : Type 0} (history : D → History) (Q : List Collection → X →
 
   pub reads_stopped : is_stopped old ≡ true → Reads history Q (Err refusals.StorageFailed) old old
   reads_stopped stopped = record {
-    on = grows_itself (store_of history old.pager);
+    extends = grows_itself (store_of history old.pager);
     unchanged = refl;
     same = λ start now has. has;
     answers = λ k start now has. inr (refl, inl stopped);
@@ -53,7 +53,7 @@ module _ {D X : Type 0} (history : D → History) (Q : List Collection → X →
 module _ {D A X : Type 0} (history : D → History) (Is : List Collection → A → Type 0) (Q : List Collection → A → X → Type 0) (old : State D) where
   pub asks_memory : (e : Refusal) → e ≡ refusals.OutOfMemory → ReadsOf history Is Q (Err e) old old
   asks_memory e is = record {
-    on = grows_itself (store_of history old.pager);
+    extends = grows_itself (store_of history old.pager);
     unchanged = refl;
     same = λ start now has. has;
     answers = λ k start now has asked so. inl is;
@@ -62,7 +62,7 @@ module _ {D A X : Type 0} (history : D → History) (Is : List Collection → A 
   -- an answer that needs no look at the tree
   pub asks_nothing : (x : X) → ((now : List Collection) (asked : A) → Is now asked → Q now asked x) → ReadsOf history Is Q (Ok x) old old
   asks_nothing x right = record {
-    on = grows_itself (store_of history old.pager);
+    extends = grows_itself (store_of history old.pager);
     unchanged = refl;
     same = λ start now has. has;
     answers = λ k start now has asked so. right now asked so;
@@ -133,12 +133,12 @@ module _ {D X Y : Type 0} (history : D → History) (root : ℕ) (P : List Entry
 
   pub looks_on : (x : X) (y : Y) → LooksUp history root P (Ok x) old new → ((entries : List Entry) → P entries x → Q entries y)
       → LooksUp history root Q (Ok y) old new
-  looks_on x y looks on = record {
+  looks_on x y looks extends = record {
     grows = looks.grows;
     same = looks.same;
     takes = looks.takes;
     full = tt;
-    yields = λ pages entries has k. on entries (looks.yields pages entries has k);
+    yields = λ pages entries has k. extends entries (looks.yields pages entries has k);
   }
 
   pub looks_never : (x : X) (e : TreeFault) → IsNotFull e → LooksUp history root P (Ok x) old new → ((entries : List Entry) → P entries x → ⊥)
@@ -162,7 +162,7 @@ module _ {D : Type 0} (history : D → History) (old : State D) (pager : PagerSt
 
   pub entries_there : (r : Result (Vec OwnEntry) Refusal) → AnswersAs result r → ReadsEntries history r old there
   entries_there r as_read = record {
-    on = looks.grows;
+    extends = looks.grows;
     unchanged = changed_there history (λ entries all. map entry_in all.items ≡ entries) old pager result looks;
     same = stays_there history (λ entries all. map entry_in all.items ≡ entries) old pager result looks;
     takes = looks.takes;
@@ -181,7 +181,7 @@ module _ {D : Type 0} (history : D → History) (old : State D) (pager : PagerSt
 
 pub entries_stopped : {D : Type 0} (history : D → History) (old : State D) → is_stopped old ≡ true → ReadsEntries history (Err refusals.StorageFailed) old old
 entries_stopped history old stopped = record {
-  on = grows_itself (store_of history old.pager);
+  extends = grows_itself (store_of history old.pager);
   unchanged = refl;
   same = λ start now has. has;
   takes = refl;
@@ -199,13 +199,13 @@ window_all (x ∷ xs) = first x.key ∙ ap (λ (l : List Entry). x ∷ l) (windo
     first (b ∷ bs) = refl
 
 -- what is read of all keys, up to more than any vector holds
-pub whole_read : (limit : ℕ) (batch : Batch) (entries : List Entry) → is_some batch.next ≡ false → Holds limit (window [] None entries) batch
+pub whole_read : (limit : ℕ) (batch : Batch) (entries : List Entry) → is_some batch.next ≡ false → HoldsBatch limit (window [] None entries) batch
     → map entry_in batch.entries.items ≡ entries
 whole_read limit batch entries end right =
     whole_batch limit (window [] None entries) (map entry_in batch.entries.items) (option_map (λ v. v.items) batch.next) (next_same batch.next ∙ end) right
     ∙ window_all entries
 
-pub no_next : (batch : Batch) (entries : List Entry) → is_some batch.next ≡ true → Holds 18446744073709551615 (window [] None entries) batch → ⊥
+pub no_next : (batch : Batch) (entries : List Entry) → is_some batch.next ≡ true → HoldsBatch 18446744073709551615 (window [] None entries) batch → ⊥
 no_next batch entries more right = go (option_map (λ v. v.items) batch.next) (next_same batch.next ∙ more) right
   where
     go : (next : Option (List ℕ)) → is_some next ≡ true → IsBatch 18446744073709551615 (window [] None entries) (map entry_in batch.entries.items) next → ⊥
@@ -216,15 +216,15 @@ no_next batch entries more right = go (option_map (λ v. v.items) batch.next) (n
 
 module _ {D X Y : Type 0} (history : D → History) (P : List Collection → X → Type 0) (Q : List Collection → Y → Type 0) (old new : State D) where
   pub reads_refused : (e : Refusal) → Reads history P (Err e) old new → Reads history Q (Err e) old new
-  reads_refused e reads = record { on = reads.on; unchanged = reads.unchanged; same = reads.same; answers = reads.answers }
+  reads_refused e reads = record { extends = reads.extends; unchanged = reads.unchanged; same = reads.same; answers = reads.answers }
 
   pub reads_on : (x : X) (r : Result Y Refusal) → Reads history P (Ok x) old new → ((now : List Collection) → P now x → OrMemory (Q now) r)
       → Reads history Q r old new
-  reads_on x r reads on = record {
-    on = reads.on;
+  reads_on x r reads extends = record {
+    extends = reads.extends;
     unchanged = reads.unchanged;
     same = reads.same;
-    answers = λ k start now has. or_cause (Q now) r (on now (reads.answers k start now has));
+    answers = λ k start now has. or_cause (Q now) r (extends now (reads.answers k start now has));
   }
     where
       or_cause : (IsRight : Y → Type 0) (r : Result Y Refusal) → OrMemory IsRight r → MatchResult r IsRight (HasReadCause history old new)
@@ -238,28 +238,28 @@ module _ {D A Y : Type 0} (history : D → History) (Is : List Collection → A 
 
   pub asks_refused : {X : Type 0} (P : List Collection → X → Type 0) (e : Refusal) → Reads history P (Err e) old new → ReadsOf history Is Q (Err e) old new
   asks_refused P e reads =
-      record { on = reads.on; unchanged = reads.unchanged; same = reads.same; answers = λ k start now has asked so. reads.answers k start now has }
+      record { extends = reads.extends; unchanged = reads.unchanged; same = reads.same; answers = λ k start now has asked so. reads.answers k start now has }
 
   pub asks_on : {X : Type 0} (P : List Collection → X → Type 0) (x : X) (r : Result Y Refusal) → Reads history P (Ok x) old new
       → ((now : List Collection) (asked : A) → Is now asked → P now x → OrMemory (Q now asked) r) → ReadsOf history Is Q r old new
-  asks_on P x r reads on = record {
-    on = reads.on;
+  asks_on P x r reads extends = record {
+    extends = reads.extends;
     unchanged = reads.unchanged;
     same = reads.same;
-    answers = λ k start now has asked so. or_cause_of (Q now asked) r (on now asked so (reads.answers k start now has));
+    answers = λ k start now has asked so. or_cause_of (Q now asked) r (extends now asked so (reads.answers k start now has));
   }
 
   pub asked_refused : {X : Type 0} (P : List Collection → A → X → Type 0) (e : Refusal) → ReadsOf history Is P (Err e) old new
       → ReadsOf history Is Q (Err e) old new
-  asked_refused P e reads = record { on = reads.on; unchanged = reads.unchanged; same = reads.same; answers = reads.answers }
+  asked_refused P e reads = record { extends = reads.extends; unchanged = reads.unchanged; same = reads.same; answers = reads.answers }
 
   pub asked_on : {X : Type 0} (P : List Collection → A → X → Type 0) (x : X) (r : Result Y Refusal) → ReadsOf history Is P (Ok x) old new
       → ((now : List Collection) (asked : A) → Is now asked → P now asked x → OrMemory (Q now asked) r) → ReadsOf history Is Q r old new
-  asked_on P x r reads on = record {
-    on = reads.on;
+  asked_on P x r reads extends = record {
+    extends = reads.extends;
     unchanged = reads.unchanged;
     same = reads.same;
-    answers = λ k start now has asked so. or_cause_of (Q now asked) r (on now asked so (reads.answers k start now has asked so));
+    answers = λ k start now has asked so. or_cause_of (Q now asked) r (extends now asked so (reads.answers k start now has asked so));
   }
 
 -- the same answer, asked of what not all collections have
@@ -267,14 +267,14 @@ module _ {D A X : Type 0} (history : D → History) (Is : List Collection → A 
     (old new : State D) where
   pub asks_same : (r : Result X Refusal) → Reads history P r old new → ((now : List Collection) (asked : A) (x : X) → Is now asked → P now x → Q now asked x)
       → ReadsOf history Is Q r old new
-  asks_same r reads on = record {
-    on = reads.on;
+  asks_same r reads extends = record {
+    extends = reads.extends;
     unchanged = reads.unchanged;
     same = reads.same;
-    answers = λ k start now has asked so. either (P now) (Q now asked) r (λ x p. on now asked x so p) (reads.answers k start now has);
+    answers = λ k start now has asked so. either (P now) (Q now asked) r (λ x p. extends now asked x so p) (reads.answers k start now has);
   }
     where
       either : (P Q : X → Type 0) (r : Result X Refusal) → ((x : X) → P x → Q x) → MatchResult r P (HasReadCause history old new)
           → MatchResult r Q (HasReadCause history old new)
-      either P Q (Ok x) on p = on x p
-      either P Q (Err e) on cause = cause
+      either P Q (Ok x) extends p = extends x p
+      either P Q (Err e) extends cause = cause

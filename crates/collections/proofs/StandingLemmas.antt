@@ -22,7 +22,7 @@ use Rattle.entries.specs.LawfulState.{IsLawfulState}
 use Rattle.entries.specs.State.{Collection}
 use Rattle.entries.specs.StateEntries.{Spells}
 use Rattle.collections.specs.State.{State}
-use Rattle.collections.specs.Calls.{GoesFrom}
+use Rattle.collections.specs.Calls.{ExtendsTurn}
 use Rattle.collections.specs.Standing.{HasState, IsTurnOf}
 use Rattle.collections.specs.View.{disk_history}
 
@@ -67,11 +67,11 @@ turned history old new start before after t n = record {
 }
 
 -- What a call makes of the tree, it makes of the state.
-pub state_on : {D : Type 0} (history : D → History) (old new : State D) (start before after : List Collection) → GoesFrom history old new
+pub state_on : {D : Type 0} (history : D → History) (old new : State D) (start before after : List Collection) → ExtendsTurn history old new
     → (KeepsWord (disk_history history new) → (t : IsTurnOf history old start before) → IsNow history t.began t.live new after)
     → HasState history old start before → HasState history new start after
-state_on history old new start before after goes makes has running k =
-    let t : IsTurnOf history old start before = has (sym (stopped_same history old.pager new.pager goes.stays) ∙ running) (goes.frame k).word in
+state_on history old new start before after continues makes has running k =
+    let t : IsTurnOf history old start before = has (sym (stopped_same history old.pager new.pager continues.stays) ∙ running) (continues.frame k).word in
     turned history old new start before after t (makes k t)
 
 -- a turn that made another tree
@@ -97,18 +97,18 @@ tree_stays history old new root pages entries map frame made retired = record {
 }
 
 -- Where nothing was made or retired, nothing changes.
-pub state_stays : {D : Type 0} (history : D → History) (old new : State D) (start now : List Collection) → GoesFrom history old new → new.root ≡ old.root
+pub state_stays : {D : Type 0} (history : D → History) (old new : State D) (start now : List Collection) → ExtendsTurn history old new → new.root ≡ old.root
     → (KeepsWord (disk_history history new) → (store_of history new.pager).made ≡ (store_of history old.pager).made)
     → (KeepsWord (disk_history history new) → (store_of history new.pager).retired ≡ (store_of history old.pager).retired)
     → HasState history old start now → HasState history new start now
-state_stays history old new start now goes same made retired =
-    state_on history old new start now now goes (λ k t.
-    let c = tree_stays history old.pager new.pager old.root t.pages t.after t.turn.holds (goes.frame k) (made k) (retired k) in
+state_stays history old new start now continues same made retired =
+    state_on history old new start now now continues (λ k t.
+    let c = tree_stays history old.pager new.pager old.root t.pages t.after t.turn.holds (continues.frame k) (made k) (retired k) in
     record {
       pages = c.after;
       after = t.after;
       turn = subst (λ (root : ℕ). IsTurn history t.began new.pager root t.live c.after t.after) (sym same)
-          (turn_on history t.began old.pager new.pager old.root old.root t.live t.pages t.after t.after t.turn goes k c);
+          (turn_on history t.began old.pager new.pager old.root old.root t.live t.pages t.after t.after t.turn continues k c);
       spells = t.spells_now;
       state = t.now_state;
     })
@@ -142,7 +142,7 @@ pub rests_at : (root tree : ℕ) → root ≡ tree → not (root == tree) ≡ fa
 rests_at root tree is = ap (λ (t : ℕ). not (root == t)) (sym is) ∙ ap not (same_number root)
 
 pub is_at : (root tree : ℕ) → not (root == tree) ≡ false → root ≡ tree
-is_at root tree rests = elim (cases_eq root tree) [
+is_at root tree clean = elim (cases_eq root tree) [
   | inl is ↦ is
-  | inr ne ↦ let never : not (root == tree) ≡ true = grind (arith, nat_tests, ne) in let both : true ≡ false = sym never ∙ rests in absurd cc
+  | inr ne ↦ let never : not (root == tree) ≡ true = grind (arith, nat_tests, ne) in let both : true ≡ false = sym never ∙ clean in absurd cc
 ]

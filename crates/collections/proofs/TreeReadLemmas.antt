@@ -19,7 +19,7 @@ use Rattle.entries.specs.State.{Collection}
 use Rattle.entries.specs.StateEntries.{key_under}
 use Rattle.index.specs.View.{texts_of}
 use Rattle.entries.proofs.OtherEditLaws.{in_range}
-use Rattle.collections.specs.Calls.{GoesFrom, HasCause}
+use Rattle.collections.specs.Calls.{ExtendsTurn, HasCause}
 use Rattle.collections.specs.Entries.{HasEntries, IsNotForRoom, ReadsTree}
 use Rattle.collections.specs.IndexChecks.{has_entry, lacks_any, lacks_key, lacks_one}
 use Rattle.collections.specs.Reading.{IsBatchOf}
@@ -37,7 +37,7 @@ use Rattle.collections.proofs.ReadingLemmas.{next_same}
 pub tree_memory : {D X : Type 0} (history : D → History) (Q : List Entry → X → Type 0) (old : State D) (e : Refusal) → e ≡ refusals.OutOfMemory
     → ReadsTree history Q (Err e) old old
 tree_memory history Q old e is = record {
-  on = goes_from_itself history old;
+  extends = goes_from_itself history old;
   unchanged = refl;
   same = λ start now has. has;
   takes = refl;
@@ -49,7 +49,7 @@ tree_memory history Q old e is = record {
 pub tree_refused : {D X Y : Type 0} (history : D → History) (P : List Entry → X → Type 0) (Q : List Entry → Y → Type 0) (old new : State D) (e : Refusal)
     → ReadsTree history P (Err e) old new → ReadsTree history Q (Err e) old new
 tree_refused history P Q old new e reads = record {
-  on = reads.on;
+  extends = reads.extends;
   unchanged = reads.unchanged;
   same = reads.same;
   takes = reads.takes;
@@ -61,14 +61,14 @@ tree_refused history P Q old new e reads = record {
 -- an answer made of what was read
 pub tree_on : {D X Y : Type 0} (history : D → History) (P : List Entry → X → Type 0) (Q : List Entry → Y → Type 0) (old new : State D) (x : X) (y : Y)
     → ReadsTree history P (Ok x) old new → ((entries : List Entry) → P entries x → Q entries y) → ReadsTree history Q (Ok y) old new
-tree_on history P Q old new x y reads on = record {
-  on = reads.on;
+tree_on history P Q old new x y reads extends = record {
+  extends = reads.extends;
   unchanged = reads.unchanged;
   same = reads.same;
   takes = reads.takes;
   room = tt;
   stays = reads.stays;
-  answers = λ k entries has. on entries (reads.answers k entries has);
+  answers = λ k entries has. extends entries (reads.answers k entries has);
 }
 
 -- a look and then another, of which the answer is that of both
@@ -77,21 +77,21 @@ pub tree_then : {D X Y : Type 0} (history : D → History) (P : List Entry → X
     → ReadsTree history P (Ok x) old mid → ReadsTree history Q r mid new → ((entries : List Entry) (y : Y) → P entries x → Q entries y → R entries y)
     → ReadsTree history R r old new
 tree_then {D} {X} {Y} history P Q R old mid new x r first second both = record {
-  on = goes_further history old mid new first.on second.on;
+  extends = goes_further history old mid new first.extends second.extends;
   unchanged = second.unchanged ∙ first.unchanged;
   same = λ start now has. second.same start now (first.same start now has);
   takes = second.takes ∙ first.takes;
   room = second.room;
-  stays = λ k entries has. second.stays k entries (first.stays (word_before history mid new second.on k) entries has);
+  stays = λ k entries has. second.stays k entries (first.stays (word_before history mid new second.extends k) entries has);
   answers = λ k entries has.
-      let k_mid = word_before history mid new second.on k in
+      let k_mid = word_before history mid new second.extends k in
       joined entries k_mid r (first.answers k_mid entries has) (second.answers k entries (first.stays k_mid entries has));
 }
   where
     joined : (entries : List Entry) → KeepsWord (disk_history history mid) → (r : Result Y Refusal) → P entries x
         → MatchResult r (Q entries) (HasCause history mid new) → MatchResult r (R entries) (HasCause history old new)
     joined entries k (Ok y) p q = both entries y p q
-    joined entries k (Err e) p cause = cause_from history old mid new first.on k e cause
+    joined entries k (Err e) p cause = cause_from history old mid new first.extends k e cause
 
 -- ---- one after the other, until one finds what is looked for
 
@@ -101,17 +101,17 @@ IsTest test entries found = found ≡ test entries
 
 -- The test comes to the one that is left.
 pub record LooksTo {D : Type 0} (history : D → History) (test rest : List Entry → Bool) (old new : State D) : Type 0 where
-  pub on : GoesFrom history old new
+  pub extends : ExtendsTurn history old new
   pub unchanged : is_changed new ≡ is_changed old
   pub same : (start now : List Collection) → HasState history old start now → HasState history new start now
-  pub takes : (pages_of history new).full_takes ≡ (pages_of history old).full_takes
+  pub takes : (pages_of history new).failed_allocations ≡ (pages_of history old).failed_allocations
   pub stays : KeepsWord (disk_history history new) → (entries : List Entry) → HasEntries history old entries → HasEntries history new entries
   pub left : KeepsWord (disk_history history new) → (entries : List Entry) → HasEntries history old entries → test entries ≡ rest entries
 
 module _ {D : Type 0} (history : D → History) (test : List Entry → Bool) where
   pub looks_none : (old : State D) → LooksTo history test test old old
   looks_none old = record {
-    on = goes_from_itself history old;
+    extends = goes_from_itself history old;
     unchanged = refl;
     same = λ start now has. has;
     takes = refl;
@@ -122,7 +122,7 @@ module _ {D : Type 0} (history : D → History) (test : List Entry → Bool) whe
   as_read : (rest : List Entry → Bool) (old new : State D) → LooksTo history test rest old new
       → ReadsTree history (λ entries (u : Bool). test entries ≡ rest entries) (Ok true) old new
   as_read rest old new far =
-      record { on = far.on; unchanged = far.unchanged; same = far.same; takes = far.takes; room = tt; stays = far.stays; answers = far.left }
+      record { extends = far.extends; unchanged = far.unchanged; same = far.same; takes = far.takes; room = tt; stays = far.stays; answers = far.left }
 
   module _ (rest one later : List Entry → Bool) (old mid new : State D) (far : LooksTo history test rest old mid) (split : (entries : List Entry)
       → rest entries ≡ (one entries || later entries)) where
@@ -132,7 +132,7 @@ module _ {D : Type 0} (history : D → History) (test : List Entry → Bool) whe
         (λ entries found. (found ≡ one entries) × (test entries ≡ rest entries)) old mid new true (Ok false) (as_read rest old mid far) reads
         (λ entries y p q. (q, p)) in
         record {
-          on = both.on;
+          extends = both.extends;
           unchanged = both.unchanged;
           same = both.same;
           takes = both.takes;

@@ -15,7 +15,7 @@ use Rattle.roots.specs.declared.store.CommitFault.TheVariants as faults
 use Rattle.roots.specs.declared.store.Store.{Store}
 use Rattle.roots.proofs.OneMap.{one_map}
 use Rattle.pager.specs.Capacity.{TreesFit}
-use Rattle.pager.specs.Commit.{Commits as CommitsPages, CountsTakes}
+use Rattle.pager.specs.Commit.{CommitsPages as CommitsPages, CountsTakes}
 use Rattle.pager.specs.Pinning.{IsPinned, KeepsOlder, KeepsVersion, KeepsVersions, Pins, TurnGoesOn, Unpins}
 use Rattle.pager.specs.State.{State as PagerState}
 use Rattle.pager.specs.Turn.{IsBegun, undone_to}
@@ -29,7 +29,7 @@ use Rattle.pager.proofs.StayLemmas.{versions_stay as pages_stay}
 use Rattle.entries.proofs.OneStateLaws.{spells_one}
 use Rattle.entries.specs.State.{Collection}
 use Rattle.entries.specs.StateEntries.{Spells}
-use Rattle.collections.specs.Calls.{GoesFrom}
+use Rattle.collections.specs.Calls.{ExtendsTurn}
 use Rattle.collections.specs.Laws.{HasOneVersion}
 use Rattle.collections.specs.Standing.{IsTurnOf}
 use Rattle.collections.specs.State.{State}
@@ -49,8 +49,8 @@ version_on history old new version collections h keeps =
 -- ---- while the turn goes on
 
 pub versions_stay : {D : Type 0} (history : D → History) → VersionsStay history
-versions_stay history old new goes version collections h =
-    version_on history old new version collections h ((pages_stay history old.pager new.pager goes).each version h.pages h.entries h.keeps)
+versions_stay history old new continues version collections h =
+    version_on history old new version collections h ((pages_stay history old.pager new.pager continues).each version h.pages h.entries h.keeps)
 
 pub has_one_version : {D : Type 0} (history : D → History) → HasOneVersion history
 has_one_version history c version a b k one two =
@@ -59,20 +59,20 @@ has_one_version history c version a b k one two =
     spells_one one.entries a b one.state two.state one.spells (subst (λ (es : List Entry). Spells es b) (sym same) two.spells)
 
 pub pins_stay : {D : Type 0} (history : D → History) → PinsStay history
-pins_stay history old new goes = (pages_stay history old.pager new.pager goes).pins
+pins_stay history old new continues = (pages_stay history old.pager new.pager continues).pins
 
 pub since_start_stays : {D : Type 0} (history : D → History) → SinceStartStays history
-since_start_stays history old new goes version collections h =
-    record { start = h.start; made = h.made; on = goes_further history h.start old new h.on goes; had = h.had }
+since_start_stays history old new continues version collections h =
+    record { start = h.start; made = h.made; extends = goes_further history h.start old new h.extends continues; had = h.had }
 
 pub has_still : {D : Type 0} (history : D → History) (c : State D) (version : Version) (collections : List Collection)
     → HasSinceStart history c version collections → HasVersion history c version collections
-has_still history c version collections h = versions_stay history h.start c h.on version collections h.had
+has_still history c version collections h = versions_stay history h.start c h.extends version collections h.had
 
 -- no page was made yet
 begins_so : {D : Type 0} (history : D → History) (c : State D) (version : Version) (collections : List Collection) → c.pager.made ≡ []
     → HasVersion history c version collections → HasSinceStart history c version collections
-begins_so history c version collections made h = record { start = c; made = made; on = goes_from_itself history c; had = h }
+begins_so history c version collections made h = record { start = c; made = made; extends = goes_from_itself history c; had = h }
 
 -- ---- when it is taken back
 
@@ -90,9 +90,9 @@ older_so history earlier old grows made is version pages entries keeps k n some 
     let frame = grows.frame k in
     let there : IsLive (store_of history earlier) n =
     has_times (IsLive (store_of history earlier)) n pages (map_live (store_of history earlier) version.root pages entries (keeps.holds frame.word)) some in
-    let long : made ≡ length (numbers_of earlier.made) = is ∙ sym (length-map earlier.made (λ sheet. sheet.page)) in
+    let long : made ≡ length (numbers_of earlier.made) = is ∙ sym (length-map earlier.made (λ model. model.page)) in
     let since : numbers_of (drop made old.made) ≡ reverse frame.made_on.0 =
-    sym (drop-map (λ sheet. sheet.page) made old.made) ∙ ap (λ (m : ℕ). drop m (numbers_of old.made)) long
+    sym (drop-map (λ model. model.page) made old.made) ∙ ap (λ (m : ℕ). drop m (numbers_of old.made)) long
     ∙ made_since (numbers_of earlier.made) (numbers_of old.made) frame.made_on.0 frame.made_on.1 in
     omega (
       arith,
@@ -105,13 +105,13 @@ older_so history earlier old grows made is version pages entries keeps k n some 
       ap (times n) since,
     )
 
-pub older_keep : {D : Type 0} (history : D → History) (earlier old : State D) (pager : PagerState D) (root made : ℕ) → GoesFrom history earlier old
+pub older_keep : {D : Type 0} (history : D → History) (earlier old : State D) (pager : PagerState D) (root made : ℕ) → ExtendsTurn history earlier old
     → made ≡ length earlier.pager.made → KeepsOlder history made old.pager pager
     → KeepsEach history earlier (record { pager = pager; root = root })
-older_keep history earlier old pager root made goes is keeps version collections h =
+older_keep history earlier old pager root made continues is keeps version collections h =
     version_on history earlier (record { pager = pager; root = root }) version collections h
-    (keeps version h.pages h.entries ((pages_stay history earlier.pager old.pager goes).each version h.pages h.entries h.keeps)
-    (older_so history earlier.pager old.pager goes made is version h.pages h.entries h.keeps))
+    (keeps version h.pages h.entries ((pages_stay history earlier.pager old.pager continues).each version h.pages h.entries h.keeps)
+    (older_so history earlier.pager old.pager continues made is version h.pages h.entries h.keeps))
 
 pub undone_keeps : {D : Type 0} (history : D → History) (old : State D) (pager : PagerState D) (root made retired : ℕ) → made ≡ 0
     → pager ≡ undone_to made retired old.pager → KeepsOlder history made old.pager pager
@@ -119,7 +119,7 @@ pub undone_keeps : {D : Type 0} (history : D → History) (old : State D) (pager
 undone_keeps {D = D} history old pager root made retired none undone keeps version collections h =
     begins_so history (record { pager = pager; root = root }) version collections
     (ap (λ (p : PagerState D). p.made) undone ∙ ap (λ (n : ℕ). take n old.pager.made) none)
-    (older_keep history h.start old pager root made h.on (none ∙ sym (ap length h.made)) keeps version collections h.had)
+    (older_keep history h.start old pager root made h.extends (none ∙ sym (ap length h.made)) keeps version collections h.had)
 
 -- ---- when it is committed
 
@@ -158,9 +158,9 @@ module _ {D : Type 0} (history : D → History) (old : State D) (pager : PagerSt
   new = record old { pager = pager }
 
   -- The turn goes on as one that began where undoing it leads to.
-  stays_so : pager.store ≡ old.pager.store → pager.book.full_takes ≡ old.pager.book.full_takes → TurnGoesOn history old.pager pager
+  stays_so : pager.store ≡ old.pager.store → pager.book.failed_allocations ≡ old.pager.book.failed_allocations → TurnGoesOn history old.pager pager
       → StaysInTurn history old new
-  stays_so same takes goes = record {
+  stays_so same takes continues = record {
     untouched = record {
       disk = ap (λ (s : Store D). stores.disk_history history s) same;
       stopped = ap (λ (s : Store D). stores.is_stopped s) same;
@@ -176,21 +176,21 @@ module _ {D : Type 0} (history : D → History) (old : State D) (pager : PagerSt
           began = undone_to 0 0 pager;
           live = t.live;
           before = t.before;
-          begun = goes.begun t.began t.live t.before t.begun t.turn.grows;
+          begun = continues.begun t.began t.live t.before t.begun t.turn.grows;
           spells_start = t.spells_start;
           start_state = t.start_state;
           pages = t.pages;
           after = t.after;
-          turn = goes.turn t.began t.live t.before t.begun old.root t.pages t.after t.turn k;
+          turn = continues.turn t.began t.live t.before t.begun old.root t.pages t.after t.turn k;
           spells_now = t.spells_now;
           now_state = t.now_state;
         };
     since_start = λ version collections h pinned. record {
       start = record { pager = undone_to 0 0 pager; root = h.start.root };
       made = refl;
-      on = goes.grows;
+      extends = continues.grows;
       had = version_on history h.start (record { pager = undone_to 0 0 pager; root = h.start.root }) version collections h.had
-          (goes.versions h.start.pager h.made h.on version h.had.pages h.had.entries h.had.keeps pinned);
+          (continues.versions h.start.pager h.made h.extends version h.had.pages h.had.entries h.had.keeps pinned);
     };
   }
 
@@ -198,16 +198,16 @@ module _ {D : Type 0} (history : D → History) (old : State D) (pager : PagerSt
   rested_pin : {start now : List Collection} (t : IsTurnOf history old start now) → KeepsWord (disk_history history old) → is_changed old ≡ false
       → length t.after ≤ 4294967295 → pager.store ≡ old.pager.store → TurnGoesOn history old.pager pager → (version : Version)
       → version.root ≡ old.root → KeepsVersion history version t.pages t.after pager → HasSinceStart history new version now
-  rested_pin {start} {now} t k rests few same goes version root keeps =
+  rested_pin {start} {now} t k clean few same continues version root keeps =
       let began = undone_to 0 0 pager in
-      let begun : IsBegun history began t.live t.before = goes.begun t.began t.live t.before t.begun t.turn.grows in
-      let trees = rested_tree history old start now t k rests in
+      let begun : IsBegun history began t.live t.before = continues.begun t.began t.live t.before t.begun t.turn.grows in
+      let trees = rested_tree history old start now t k clean in
       let tree : (stores.durable_root pager.store).tree ≡ version.root =
-      ap (λ (s : Store D). (stores.durable_root s).tree) same ∙ sym (is_at old.root (stores.durable_root old.pager.store).tree rests) ∙ sym root in
+      ap (λ (s : Store D). (stores.durable_root s).tree) same ∙ sym (is_at old.root (stores.durable_root old.pager.store).tree clean) ∙ sym root in
       record {
         start = record { pager = began; root = old.root };
         made = refl;
-        on = goes.grows;
+        extends = continues.grows;
         had = record {
           pages = t.pages;
           entries = t.after;
@@ -245,9 +245,9 @@ module _ {D : Type 0} (history : D → History) (old : State D) (pager : PagerSt
   store_of_pin (Err e) pins = ap (λ (p : PagerState D). p.store) pins.err
 
   takes_of_pin : {E : Type 0} (result : Result Version E) → Pins history old.root result old.pager pager
-      → pager.book.full_takes ≡ old.pager.book.full_takes
-  takes_of_pin (Ok version) pins = ap (λ (p : PagerState D). p.book.full_takes) pins.pinned
-  takes_of_pin (Err e) pins = ap (λ (p : PagerState D). p.book.full_takes) pins.err
+      → pager.book.failed_allocations ≡ old.pager.book.failed_allocations
+  takes_of_pin (Ok version) pins = ap (λ (p : PagerState D). p.book.failed_allocations) pins.pinned
+  takes_of_pin (Err e) pins = ap (λ (p : PagerState D). p.book.failed_allocations) pins.err
 
   old_of_pin : {E : Type 0} (result : Result Version E) → Pins history old.root result old.pager pager → OnErr result (new ≡ old)
   old_of_pin (Ok version) pins = tt
@@ -259,8 +259,8 @@ module _ {D : Type 0} (history : D → History) (old : State D) (pager : PagerSt
     version = λ start now running k has. let t : IsTurnOf history old start now = has running k in
         has_pinned t result (pins.keeps t.began t.live t.before t.begun t.pages t.after (λ _. t.turn))
         (omega (arith, (fits t.began t.live t.before t.begun old.root t.pages t.after t.turn k).few));
-    rested = λ start now running k has rests. let t : IsTurnOf history old start now = has running k in
-        rested_so t k rests (omega (arith, (fits t.began t.live t.before t.begun old.root t.pages t.after t.turn k).few)) result pins
+    rested = λ start now running k has clean. let t : IsTurnOf history old start now = has running k in
+        rested_so t k clean (omega (arith, (fits t.began t.live t.before t.begun old.root t.pages t.after t.turn k).few)) result pins
         (pins.keeps t.began t.live t.before t.begun t.pages t.after (λ _. t.turn));
     pinned = pinned_version result pins;
     once = one_pin_more result pins;
@@ -280,15 +280,15 @@ module _ {D : Type 0} (history : D → History) (old : State D) (pager : PagerSt
           → length t.after ≤ 4294967295 → (result : Result Version E) → Pins history old.root result old.pager pager
           → IfOk result (λ version. KeepsVersion history version t.pages t.after pager)
           → IfOk result (λ version. HasSinceStart history new version now)
-      rested_so t k rests few (Ok version) pins keeps =
-          rested_pin t k rests few (store_of_pin (Ok version) pins) pins.goes_on version (ap (λ (v : Version). v.root) pins.version) keeps
-      rested_so t k rests few (Err e) pins keeps = tt
+      rested_so t k clean few (Ok version) pins keeps =
+          rested_pin t k clean few (store_of_pin (Ok version) pins) pins.goes_on version (ap (λ (v : Version). v.root) pins.version) keeps
+      rested_so t k clean few (Err e) pins keeps = tt
 
   pub unpins_so : (version : Version) → Unpins history version old.pager pager → UnpinsVersion history version old new
   unpins_so version unpins = record {
     once = unpins.counts;
     stays = stays_so (ap (λ (p : PagerState D). p.store) unpins.unpinned)
-        (ap (λ (p : PagerState D). p.book.full_takes) unpins.unpinned) unpins.goes_on;
+        (ap (λ (p : PagerState D). p.book.failed_allocations) unpins.unpinned) unpins.goes_on;
     others = λ other collections h pinned.
         version_on history old new other collections h (unpins.others other h.pages h.entries h.keeps pinned);
   }

@@ -278,13 +278,13 @@ module _ (now : List Collection) (walk : Walk) (rest : List Pairs) (w : IsWalk n
 
   at_cut : (next : List ℕ) → IsBatch range.limit (within range p.entries) entries (Some next) → IsNext (Some next)
   at_cut next h =
-      let on = goes_on_behind walk.number key c.documents entries h.others h.next kept_here.rising kept_here.storable (sym listed ∙ h.is) in
+      let extends = goes_on_behind walk.number key c.documents entries h.others h.next kept_here.rising kept_here.storable (sym listed ∙ h.is) in
       let same : entries ≡ map (document_entry walk.number) (take count rest) =
-      on.0 ∙ (λ i. map (document_entry walk.number) (take (count_is i) (rest_is i))) in
+      extends.0 ∙ (λ i. map (document_entry walk.number) (take (count_is i) (rest_is i))) in
       let left : documents_at walk.number next ((w.done ++ take count rest) ++ drop count rest) ≡ drop count rest =
-      (λ i. documents_at walk.number (sym h.key_is i) (sym parted i)) ∙ on.1 ∙ (λ i. drop (count_is i) (rest_is i)) in
+      (λ i. documents_at walk.number (sym h.key_is i) (sym parted i)) ∙ extends.1 ∙ (λ i. drop (count_is i) (rest_is i)) in
       let parts = split_at walk.number next (w.done ++ take count rest) (drop count rest) left in
-      let above : IsNotUnder next (key_under walk.number 0 []) = subst (λ (k : List ℕ). IsNotUnder k (key_under walk.number 0 [])) h.key_is on.2 in
+      let above : IsNotUnder next (key_under walk.number 0 []) = subst (λ (k : List ℕ). IsNotUnder k (key_under walk.number 0 [])) h.key_is extends.2 in
       record {
         each = each_document walk.number batch.entries.items (take count rest) same some_all;
         step = record {
@@ -312,10 +312,10 @@ pub steps_on : {D X : Type 0} (history : D → History) (Q : List Collection →
     → let count = length batch.entries.items in AreEach IsOfDocument batch.entries.items (take count rest)
     → IsStep walk w.done rest range.limit count (option_map (λ v. v.items) batch.next) → OrMemory (Q now rest) r)
     → ReadsOf history (λ now rest. IsWalk now walk rest) Q r old new
-steps_on history Q old new walk from next_is range range_from range_to some batch r reads on =
+steps_on history Q old new walk from next_is range range_from range_to some batch r reads extends =
     asks_on history (λ now rest. IsWalk now walk rest) Q old new (IsInTree (IsBatchOf range)) batch r reads (λ now rest w p.
     let there = next_there now walk rest w from next_is range range_from range_to some batch p in
-    on now rest w there.each there.step)
+    extends now rest w there.each there.step)
 
 -- the walk behind a step
 module _ (now : List Collection) (walk : Walk) (rest : List Pairs) (w : IsWalk now walk rest) (limit count : ℕ) (next : Option (Vec ℕ))

@@ -7,7 +7,7 @@ use Rattle.path.specs.declared.refusal.Refusal.{Refusal}
 use Rattle.entries.specs.LawfulState.{IsLawfulState}
 use Rattle.entries.specs.State.{Collection}
 use Rattle.entries.specs.StateEntries.{Spells}
-use Rattle.collections.specs.Calls.{GoesFrom, HasReadCause, IsUnchanged}
+use Rattle.collections.specs.Calls.{ExtendsTurn, HasReadCause, IsUnchanged}
 use Rattle.collections.specs.Standing.{HasState}
 use Rattle.collections.specs.State.{State}
 use Rattle.collections.specs.View.{disk_history, is_stopped, pages_of}
@@ -31,7 +31,7 @@ IsNothing collections asked = ⊤
 pub record ReadsBelow {D A X : Type 0} (history : D → History) (root : ℕ)
     (Is : List Collection → A → Type 0) (IsRight : List Collection → A → X → Type 0)
     (result : Result X Refusal) (old new : State D) : Type 0 where
-  pub on : GoesFrom history old new
+  pub extends : ExtendsTurn history old new
   pub unchanged : IsUnchanged history old new
   pub same : (start now : List Collection) → HasState history old start now
       → HasState history new start now

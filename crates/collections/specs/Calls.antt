@@ -14,8 +14,8 @@ use Rattle.collections.specs.Standing.{HasState}
 use Rattle.collections.specs.View.{disk_history, is_changed, is_stopped, pages_of}
 
 -- The turn went on: what its tree reaches stays, whatever the disk.
-abbrev pub GoesFrom : {D : Type 0} → (D → History) → State D → State D → Type 0
-GoesFrom history old new = Grows (pages_of history old) (pages_of history new)
+abbrev pub ExtendsTurn : {D : Type 0} → (D → History) → State D → State D → Type 0
+ExtendsTurn history old new = Grows (pages_of history old) (pages_of history new)
 
 -- the device failed in the call or before
 abbrev pub HasFailed : {D : Type 0} → (D → History) → State D → State D → Type 0
@@ -42,7 +42,7 @@ HasCause history old new e = (e ≡ refusals.OutOfMemory)
 -- whether the turn's tree is another than the committed one, and how often a page was asked for and
 -- none was free
 abbrev pub turn_so_far : {D : Type 0} → (D → History) → State D → Bool × ℕ
-turn_so_far history c = (is_changed c, (pages_of history c).full_takes)
+turn_so_far history c = (is_changed c, (pages_of history c).failed_allocations)
 
 -- The turn changed nothing and asked for no page: both are as before.
 abbrev pub IsUnchanged : {D : Type 0} → (D → History) → State D → State D → Type 0
@@ -52,7 +52,7 @@ IsUnchanged history old new = turn_so_far history new ≡ turn_so_far history ol
 -- right for the collections, or the refusal has its cause.
 pub record Reads {D X : Type 0} (history : D → History) (IsRight : List Collection → X → Type 0)
     (result : Result X Refusal) (old new : State D) : Type 0 where
-  pub on : GoesFrom history old new
+  pub extends : ExtendsTurn history old new
   pub unchanged : IsUnchanged history old new
   pub same : (start now : List Collection) → HasState history old start now
       → HasState history new start now
@@ -81,7 +81,7 @@ HasWriteCause history after old new e =
 -- them.
 pub record Applies {D : Type 0} (history : D → History) (edits : List Edit)
     (result : Result (Unit {0}) Refusal) (old new : State D) : Type 0 where
-  pub on : GoesFrom history old new
+  pub extends : ExtendsTurn history old new
   pub idle : edits ≡ [] → new ≡ old
   pub unchanged : OnErr result (is_changed new ≡ is_changed old)
   pub kinds : IfErr result IsOfFile

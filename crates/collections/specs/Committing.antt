@@ -2,13 +2,13 @@
 use Rattle.std.specs.Prelude.{◌≡◌, ◌≢◌, ◌⊎◌, ◌+◌, ◌-◌, ◌<◌, ◌≤◌, ◌^◌, false, true, List, Result}
 use Rattle.std.specs.Prelude.{Err, OnOk, OnErr}
 use Rattle.page.specs.History.{History, KeepsWord}
-use Rattle.page.specs.Crash.{GoesOn, LeavesOnly, LeavesNow}
+use Rattle.page.specs.Crash.{ExtendsHistory, LeavesOnly, CrashLeaves}
 use Rattle.btree.specs.Store.{HasNoPage}
 use Rattle.roots.specs.declared.store.CommitFault.{CommitFault}
 use Rattle.roots.specs.declared.store.CommitFault.TheVariants as faults
 use Rattle.entries.specs.State.{Collection}
 use Rattle.collections.specs.State.{State}
-use Rattle.collections.specs.Holding.{Holds}
+use Rattle.collections.specs.Holding.{HoldsState}
 use Rattle.collections.specs.Marks.{IsUntouched}
 use Rattle.collections.specs.Standing.{HasState}
 use Rattle.collections.specs.View.{disk_history, generation, is_changed, is_stopped, pages_of}
@@ -19,9 +19,9 @@ use Rattle.collections.specs.View.{disk_history, generation, is_changed, is_stop
 pub record Moves {D : Type 0} (history : D → History) (start now : List Collection)
     (result : Result (Unit {0}) CommitFault) (old new : State D) : Type 0 where
   pub any_moment : LeavesOnly (disk_history history old) (disk_history history new)
-      (λ image. Holds image start ⊎ Holds image now)
+      (λ image. HoldsState image start ⊎ HoldsState image now)
   pub acknowledged : OnOk result
-      (LeavesNow (disk_history history new) (λ image. Holds image now))
+      (CrashLeaves (disk_history history new) (λ image. HoldsState image now))
   pub begun : OnOk result (HasState history new now now)
 
 -- No page was free for the file's list of free pages, which is counted, and nothing else changed.
@@ -42,17 +42,17 @@ HasFailedToWrite history old new = (is_stopped old ≡ true)
     ⊎ ((disk_history history old).failed_writes < (disk_history history new).failed_writes)
 
 -- The turn was made durable, or not.
-pub record Commits {D : Type 0} (history : D → History)
+pub record CommitsCollections {D : Type 0} (history : D → History)
     (result : Result (Unit {0}) CommitFault) (old new : State D) : Type 0 where
-  pub on : GoesOn (disk_history history old) (disk_history history new)
+  pub extends : ExtendsHistory (disk_history history old) (disk_history history new)
   pub running : OnOk result ((is_stopped old ≡ false) × (is_stopped new ≡ false))
   pub version : OnOk result (generation new ≡ generation old + 1)
   pub still : OnErr result (generation new ≡ generation old)
-  pub rests : OnOk result (is_changed new ≡ false)
+  pub clean : OnOk result (is_changed new ≡ false)
   -- how often a page was asked for and none was free: never fewer, and more often only at Full
-  pub takes : (pages_of history old).full_takes ≤ (pages_of history new).full_takes
+  pub takes : (pages_of history old).failed_allocations ≤ (pages_of history new).failed_allocations
   pub found : result ≢ Err faults.Full
-      → (pages_of history new).full_takes ≡ (pages_of history old).full_takes
+      → (pages_of history new).failed_allocations ≡ (pages_of history old).failed_allocations
   -- the turn is still there, to be undone
   pub memory : result ≡ Err faults.Memory → new ≡ old
   pub full : result ≡ Err faults.Full → FindsNoRoom history old new

@@ -9,9 +9,9 @@ use Rattle.roots.specs.declared.counting.PageCounts.{PageCounts}
 use Rattle.roots.specs.declared.opening.OpenFault.{OpenFault}
 use Rattle.roots.specs.declared.opening.OpenFault.TheVariants as faults
 use Rattle.entries.specs.State.{Collection}
-use Rattle.collections.specs.Calls.{GoesFrom, HasFailed}
+use Rattle.collections.specs.Calls.{ExtendsTurn, HasFailed}
 use Rattle.collections.specs.Entries.{HasEntries}
-use Rattle.collections.specs.Holding.{Holds}
+use Rattle.collections.specs.Holding.{HoldsState}
 use Rattle.collections.specs.Standing.{HasState}
 use Rattle.collections.specs.State.{State}
 use Rattle.collections.specs.View.{disk_history, is_changed}
@@ -20,7 +20,7 @@ use Rattle.collections.specs.View.{disk_history, is_changed}
 -- reaches: those of its tree, and those of the list of free pages that it names, if any.
 pub record HasCounts (image : ℕ → List ℕ) (collections : List Collection)
     (counts : PageCounts) : Type 0 where
-  pub holds : Holds image collections
+  pub holds : HoldsState image collections
   pub are : let file = holds.stands in
       AreCounts file.root (reached_by file.pages file.holds.listed.0) counts
 
@@ -38,7 +38,7 @@ HasCountCause history old new faults.NewerFormat = ⊥
 -- collections, they are those of the file that holds them, or the fault has its cause.
 pub record CountsPages {D : Type 0} (history : D → History) (result : Result PageCounts OpenFault)
     (old new : State D) : Type 0 where
-  pub on : GoesFrom history old new
+  pub extends : ExtendsTurn history old new
   pub unchanged : is_changed new ≡ is_changed old
   pub same : (start now : List Collection) → HasState history old start now
       → HasState history new start now

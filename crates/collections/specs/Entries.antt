@@ -12,7 +12,7 @@ use Rattle.btree.specs.declared.scanning.Entry.{Entry as OwnEntry}
 use Rattle.entries.specs.State.{Collection}
 use Rattle.path.specs.declared.refusal.Refusal.{Refusal}
 use Rattle.path.specs.declared.refusal.Refusal.TheVariants as refusals
-use Rattle.collections.specs.Calls.{GoesFrom, HasCause}
+use Rattle.collections.specs.Calls.{ExtendsTurn, HasCause}
 use Rattle.collections.specs.Standing.{HasState}
 use Rattle.collections.specs.State.{State}
 use Rattle.collections.specs.View.{disk_history, is_changed, pages_of}
@@ -33,12 +33,12 @@ IsNotForRoom _ = Unit {0}
 pub record ReadsEntries {D : Type 0} (history : D → History)
     (result : Result (Vec OwnEntry) Refusal)
     (old new : State D) : Type 0 where
-  pub on : GoesFrom history old new
+  pub extends : ExtendsTurn history old new
   pub unchanged : is_changed new ≡ is_changed old
   pub same : (start now : List Collection) → HasState history old start now
       → HasState history new start now
   -- no page was asked for
-  pub takes : (pages_of history new).full_takes ≡ (pages_of history old).full_takes
+  pub takes : (pages_of history new).failed_allocations ≡ (pages_of history old).failed_allocations
   pub room : IfErr result IsNotForRoom
   pub answers : KeepsWord (disk_history history new) → (entries : List Entry)
       → HasEntries history old entries
@@ -63,12 +63,12 @@ pub record AreNextEntries (from : List ℕ) (limit : ℕ) (entries : List Entry)
 -- word, the answer is right for the entries that the tree has, or the refusal has its cause.
 pub record ReadsTree {D X : Type 0} (history : D → History) (IsRight : List Entry → X → Type 0)
     (result : Result X Refusal) (old new : State D) : Type 0 where
-  pub on : GoesFrom history old new
+  pub extends : ExtendsTurn history old new
   pub unchanged : is_changed new ≡ is_changed old
   pub same : (start now : List Collection) → HasState history old start now
       → HasState history new start now
   -- no page was asked for
-  pub takes : (pages_of history new).full_takes ≡ (pages_of history old).full_takes
+  pub takes : (pages_of history new).failed_allocations ≡ (pages_of history old).failed_allocations
   pub room : IfErr result IsNotForRoom
   pub stays : KeepsWord (disk_history history new) → (entries : List Entry)
       → HasEntries history old entries → HasEntries history new entries

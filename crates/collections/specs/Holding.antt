@@ -7,7 +7,7 @@ use Rattle.entries.specs.StateEntries.{Spells}
 use Rattle.entries.specs.LawfulState.{IsLawfulState}
 
 -- The entries of the tree that the image's root names spell these collections, which are lawful.
-pub record Holds (image : ℕ → List ℕ) (collections : List Collection) : Type 0 where
+pub record HoldsState (image : ℕ → List ℕ) (collections : List Collection) : Type 0 where
   pub entries : List Entry
   pub stands : StandsFor image entries
   pub spells : Spells entries collections

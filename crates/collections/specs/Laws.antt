@@ -1,16 +1,16 @@
 -- What follows where collections have a state.
 use Rattle.std.specs.Prelude.{◌≡◌, ◌≢◌, ℕ, false, List, [], replicate}
 use Rattle.page.specs.History.{History, KeepsWord}
-use Rattle.page.specs.Crash.{LeavesNow}
+use Rattle.page.specs.Crash.{CrashLeaves}
 use Rattle.roots.specs.declared.counting.PageCounts.{PageCounts}
 use Rattle.entries.specs.State.{Collection}
 use Rattle.pager.specs.declared.version.Version.{Version}
 use Rattle.path.specs.declared.refusal.Refusal.{Refusal}
 use Rattle.path.specs.declared.refusal.Refusal.TheVariants as refusals
 use Rattle.collections.specs.State.{State}
-use Rattle.collections.specs.Calls.{GoesFrom, HasCause, HasReadCause}
+use Rattle.collections.specs.Calls.{ExtendsTurn, HasCause, HasReadCause}
 use Rattle.collections.specs.Counting.{HasCounts}
-use Rattle.collections.specs.Holding.{Holds}
+use Rattle.collections.specs.Holding.{HoldsState}
 use Rattle.collections.specs.Standing.{HasState}
 use Rattle.collections.specs.Versions.{HasVersion}
 use Rattle.collections.specs.View.{disk_history, is_changed, is_stopped}
@@ -19,7 +19,7 @@ use Rattle.collections.specs.View.{disk_history, is_changed, is_stopped}
 abbrev pub LeavesStart : {D : Type 0} → (D → History) → Type 0
 LeavesStart {D = D} history = (c : State D) (start now : List Collection)
     → is_stopped c ≡ false → HasState history c start now
-    → LeavesNow (disk_history history c) (λ image. Holds image start)
+    → CrashLeaves (disk_history history c) (λ image. HoldsState image start)
 
 -- A turn that has changed nothing stands for what it began with.
 abbrev pub RestsAtStart : {D : Type 0} → (D → History) → Type 0
@@ -42,7 +42,8 @@ HasOneVersion {D = D} history = (c : State D) (version : Version) (a b : List Co
 
 -- An image holds one list of collections at most.
 abbrev pub HoldsOne : Type 0
-HoldsOne = (image : ℕ → List ℕ) (a b : List Collection) → Holds image a → Holds image b → a ≡ b
+HoldsOne = (image : ℕ → List ℕ) (a b : List Collection) → HoldsState image a → HoldsState image b
+    → a ≡ b
 
 -- The pages of an image are counted in one way.
 abbrev pub HasOneCount : Type 0
@@ -52,15 +53,15 @@ HasOneCount = (image : ℕ → List ℕ) (a b : List Collection) (one other : Pa
 -- An image whose root sectors are zeros holds no collection.
 abbrev pub ZerosHoldNothing : Type 0
 ZerosHoldNothing = (image : ℕ → List ℕ) → image 0 ≡ replicate 512 0
-    → image 1 ≡ replicate 512 0 → Holds image []
+    → image 1 ≡ replicate 512 0 → HoldsState image []
 
 -- A turn goes on from where it is, and on from there.
-abbrev pub GoesFromItself : {D : Type 0} → (D → History) → Type 0
-GoesFromItself {D = D} history = (c : State D) → GoesFrom history c c
+abbrev pub ExtendsItself : {D : Type 0} → (D → History) → Type 0
+ExtendsItself {D = D} history = (c : State D) → ExtendsTurn history c c
 
 abbrev pub GoesFurther : {D : Type 0} → (D → History) → Type 0
 GoesFurther {D = D} history = (a b c : State D)
-    → GoesFrom history a b → GoesFrom history b c → GoesFrom history a c
+    → ExtendsTurn history a b → ExtendsTurn history b c → ExtendsTurn history a c
 
 -- What refuses a call that only reads is a cause of any call's, and never that no page is free.
 abbrev pub ReadsFindRoom : {D : Type 0} → (D → History) → Type 0

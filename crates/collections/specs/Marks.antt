@@ -5,7 +5,7 @@ use Rattle.pager.specs.Turn.{IsOrderly}
 use Rattle.entries.specs.State.{Collection}
 use Rattle.collections.specs.State.{State}
 use Rattle.collections.specs.declared.mark.Mark.{Mark}
-use Rattle.collections.specs.Calls.{GoesFrom}
+use Rattle.collections.specs.Calls.{ExtendsTurn}
 use Rattle.collections.specs.Standing.{HasState}
 use Rattle.collections.specs.View.{disk_history, generation, is_changed, is_stopped, pages_of}
 
@@ -25,7 +25,7 @@ pub record IsUntouched {D : Type 0} (history : D → History) (old new : State D
 
 -- The collections are those of then, and the turn goes on from there.
 pub record IsBackAt {D : Type 0} (history : D → History) (earlier new : State D) : Type 0 where
-  pub on : GoesFrom history earlier new
+  pub extends : ExtendsTurn history earlier new
   pub state : (start then : List Collection) → HasState history earlier start then
       → HasState history new start then
   pub changed : is_changed new ≡ is_changed earlier
@@ -34,14 +34,14 @@ pub record IsBackAt {D : Type 0} (history : D → History) (earlier new : State 
 pub record ReturnsTo {D : Type 0} (history : D → History) (mark : Mark)
     (old new : State D) : Type 0 where
   pub untouched : IsUntouched history old new
-  pub takes : (pages_of history new).full_takes ≡ (pages_of history old).full_takes
-  pub back : (earlier : State D) → IsMarkOf mark earlier → GoesFrom history earlier old
+  pub takes : (pages_of history new).failed_allocations ≡ (pages_of history old).failed_allocations
+  pub back : (earlier : State D) → IsMarkOf mark earlier → ExtendsTurn history earlier old
       → IsBackAt history earlier new
 
 -- back to where the turn began
 pub record Undoes {D : Type 0} (history : D → History) (old new : State D) : Type 0 where
   pub untouched : IsUntouched history old new
-  pub takes : (pages_of history new).full_takes ≡ (pages_of history old).full_takes
-  pub rests : is_changed new ≡ false
+  pub takes : (pages_of history new).failed_allocations ≡ (pages_of history old).failed_allocations
+  pub clean : is_changed new ≡ false
   pub state : (start now : List Collection) → HasState history old start now
       → HasState history new start start

@@ -13,7 +13,7 @@ use Rattle.btree.specs.Calls.{Yields}
 use Rattle.btree.specs.Keys.{Entry, value_at}
 use Rattle.btree.specs.Reach.{HasMap}
 use Rattle.btree.specs.Reading.{IsNotFull}
-use Rattle.btree.specs.Scan.{Holds, entry_in, within}
+use Rattle.btree.specs.Scan.{HoldsBatch, entry_in, within}
 use Rattle.btree.specs.Store.{Grows, IsSame}
 use Rattle.btree.specs.declared.pages.TreeFault.{TreeFault}
 use Rattle.btree.specs.declared.scanning.Batch.{Batch}
@@ -30,7 +30,7 @@ use Rattle.entries.specs.declared.catalogue_reading.Catalogued.{Catalogued}
 use Rattle.pager.specs.State.{State as PagerState}
 use Rattle.pager.specs.View.{pager_history, store_of}
 use Rattle.collections.specs.declared.lookups.Name.{Name}
-use Rattle.collections.specs.Calls.{GoesFrom, HasReadCause, IsUnchanged}
+use Rattle.collections.specs.Calls.{ExtendsTurn, HasReadCause, IsUnchanged}
 use Rattle.collections.specs.Standing.{HasState}
 use Rattle.collections.specs.State.{State}
 use Rattle.collections.specs.View.{disk_history}
@@ -45,7 +45,7 @@ pub record LooksUp {D X : Type 0} (history : D → History) (root : ℕ)
   pub grows : Grows (store_of history old) (store_of history new)
   pub same : KeepsWord (pager_history history new)
       → IsSame (store_of history old) (store_of history new)
-  pub takes : (store_of history new).full_takes ≡ (store_of history old).full_takes
+  pub takes : (store_of history new).failed_allocations ≡ (store_of history old).failed_allocations
   pub full : IfErr result IsNotFull
   pub yields : (pages : List ℕ) (entries : List Entry)
       → HasMap (store_of history old) root pages entries
@@ -65,7 +65,7 @@ IsValueAt key entries found = option_map (λ v. v.items) found ≡ value_at key 
 
 -- the entries of the range, as far as the batch has room
 abbrev pub IsBatchOf : Range → List Entry → Batch → Type 0
-IsBatchOf range entries batch = Holds range.limit (within range entries) batch
+IsBatchOf range entries batch = HoldsBatch range.limit (within range entries) batch
 
 -- an answer, unless memory ran out
 abbrev pub OrMemory : {X : Type 0} → (X → Type 0) → Result X Refusal → Type 0
@@ -121,7 +121,7 @@ IsNameOf name c = name_of name ≡ name_in c
 pub record ReadsOf {D A X : Type 0} (history : D → History) (Is : List Collection → A → Type 0)
     (IsRight : List Collection → A → X → Type 0) (result : Result X Refusal)
     (old new : State D) : Type 0 where
-  pub on : GoesFrom history old new
+  pub extends : ExtendsTurn history old new
   pub unchanged : IsUnchanged history old new
   pub same : (start now : List Collection) → HasState history old start now
       → HasState history new start now

@@ -12,7 +12,7 @@ use Rattle.pager.specs.declared.version.Version.{Version}
 use Rattle.path.specs.declared.refusal.Refusal.{Refusal}
 use Rattle.roots.specs.declared.store.CommitFault.{CommitFault}
 use Rattle.roots.specs.declared.store.CommitFault.TheVariants as faults
-use Rattle.collections.specs.Calls.{GoesFrom, HasReadCause, IsUnchanged}
+use Rattle.collections.specs.Calls.{ExtendsTurn, HasReadCause, IsUnchanged}
 use Rattle.collections.specs.Marks.{IsMarkOf, IsUntouched}
 use Rattle.collections.specs.Standing.{HasState}
 use Rattle.collections.specs.State.{State}
@@ -39,12 +39,12 @@ KeepsEach {D = D} history old new =
 -- law: what only reads the disk, and takes and retires pages, keeps what each version has
 abbrev pub VersionsStay : {D : Type 0} → (D → History) → Type 0
 VersionsStay {D = D} history =
-    (old new : State D) → GoesFrom history old new → KeepsEach history old new
+    (old new : State D) → ExtendsTurn history old new → KeepsEach history old new
 
 -- Taking back to a mark leaves what each version had that was pinned then.
 abbrev pub KeepsThen : {D : Type 0} → (D → History) → Mark → State D → State D → Type 0
 KeepsThen {D = D} history mark old new =
-    (earlier : State D) → IsMarkOf mark earlier → GoesFrom history earlier old
+    (earlier : State D) → IsMarkOf mark earlier → ExtendsTurn history earlier old
     → KeepsEach history earlier new
 
 -- ---- how often each is pinned
@@ -60,7 +60,7 @@ HasOnePinMore version fewer more = (n : ℕ) → times n more ≡ times n (versi
 -- law: only pins and their ends change what is pinned, of all that goes on in a turn
 abbrev pub PinsStay : {D : Type 0} → (D → History) → Type 0
 PinsStay {D = D} history =
-    (old new : State D) → GoesFrom history old new → pins_of new ≡ pins_of old
+    (old new : State D) → ExtendsTurn history old new → pins_of new ≡ pins_of old
 
 -- ---- what stays when the turn is taken back
 
@@ -70,7 +70,7 @@ pub record HasSinceStart {D : Type 0} (history : D → History) (c : State D) (v
     (collections : List Collection) : Type 0 where
   pub start : State D
   pub made : start.pager.made ≡ []
-  pub on : GoesFrom history start c
+  pub extends : ExtendsTurn history start c
   pub had : HasVersion history start version collections
 
 -- what each version has had since the turn began stays
@@ -82,7 +82,7 @@ KeepsSinceStart {D = D} history old new =
 -- law: what only reads the disk, and takes and retires pages, keeps this too
 abbrev pub SinceStartStays : {D : Type 0} → (D → History) → Type 0
 SinceStartStays {D = D} history =
-    (old new : State D) → GoesFrom history old new → KeepsSinceStart history old new
+    (old new : State D) → ExtendsTurn history old new → KeepsSinceStart history old new
 
 -- A commit keeps what each version has, done or failed. The next turn begins with it, and a turn
 -- that is still to be taken back keeps what each version has had since it began.
@@ -99,7 +99,7 @@ pub record CommitsVersions {D : Type 0} (history : D → History)
 pub record StaysInTurn {D : Type 0} (history : D → History) (old new : State D) : Type 0 where
   pub untouched : IsUntouched history old new
   -- no page was asked for
-  pub takes : (pages_of history new).full_takes ≡ (pages_of history old).full_takes
+  pub takes : (pages_of history new).failed_allocations ≡ (pages_of history old).failed_allocations
   pub unchanged : is_changed new ≡ is_changed old
   pub state : (start now : List Collection) → HasState history old start now
       → HasState history new start now
@@ -142,7 +142,7 @@ pub record UnpinsVersion {D : Type 0} (history : D → History) (version : Versi
 pub record ReadsVersion {D A X : Type 0} (history : D → History) (version : Version)
     (Is : List Collection → A → Type 0) (IsRight : List Collection → A → X → Type 0)
     (result : Result X Refusal) (old new : State D) : Type 0 where
-  pub on : GoesFrom history old new
+  pub extends : ExtendsTurn history old new
   pub unchanged : IsUnchanged history old new
   pub same : (start now : List Collection) → HasState history old start now
       → HasState history new start now

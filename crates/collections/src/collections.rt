@@ -52,10 +52,10 @@ impl<D: Disk> Model for Collections<D> {
 impl<D: Disk> Collections<D> {
     ghost use Rattle.std.specs.Prelude.{Bool, IfErr, IfOk};
     ghost use Rattle.pager.specs.Asking.{OnlyWrites};
-    ghost use Rattle.collections.specs.Committing.{Commits};
+    ghost use Rattle.collections.specs.Committing.{CommitsCollections};
     ghost use Rattle.collections.specs.Counting.{CountsPages};
     ghost use Rattle.collections.specs.Marks.{IsMarkOf, ReturnsTo, Undoes};
-    ghost use Rattle.collections.specs.Opening.{HasLimit, IsOpened, IsRefused};
+    ghost use Rattle.collections.specs.Opening.{HasLimit, AreCollectionsOpened, AreCollectionsRefused};
     ghost use Rattle.collections.specs.Trusting.{trusting_state};
     ghost use Rattle.collections.specs.Versions.{CommitsVersions, KeepsSinceStart, KeepsThen, pins_of};
     ghost use Rattle.collections.specs.View.{disk_history, generation, is_changed, is_stopped, pages_of};
@@ -63,9 +63,9 @@ impl<D: Disk> Collections<D> {
     /// Opens a disk that a crash may have left, as a file of at most so many pages, or those that it has. It reads the list of free
     /// pages, and of the tree the root page alone; each page of the tree where the file has no list. An `Err` hands the disk back.
     pub fn open(alloc: Global, disk: D, limit: u32) -> Result<Collections<D>, (D, OpenFault)>
-        ensures opened { IfOk result (IsOpened D.history disk) }
+        ensures opened { IfOk result (AreCollectionsOpened D.history disk) }
         ensures limit { IfOk result (HasLimit limit) }
-        ensures refused { IfErr result (λ e. IsRefused D.history disk e.0 e.1) }
+        ensures refused { IfErr result (λ e. AreCollectionsRefused D.history disk e.0 e.1) }
     {
         let pager = match Pager::open(alloc, disk, limit) {
             Ok(pager) => pager,
@@ -130,10 +130,10 @@ impl<D: Disk> Collections<D> {
     }
 
     /// How often a page was asked for and none was free, as far as a u64 counts.
-    pub fn full_takes(&self) -> u64
-        ensures { result ≡ (pages_of D.history self.now).full_takes }
+    pub fn failed_allocations(&self) -> u64
+        ensures { result ≡ (pages_of D.history self.now).failed_allocations }
     {
-        self.pager.full_takes()
+        self.pager.failed_allocations()
     }
 
     /// The number of the commit that was the last one.
@@ -193,7 +193,7 @@ impl<D: Disk> Collections<D> {
 
     /// Makes the turn durable; the next one begins with what it leaves. An `Err` leaves the turn, to be undone. It reads nothing.
     pub fn commit(&mut self) -> Result<(), CommitFault>
-        ensures commits { Commits D.history result self.old self.new }
+        ensures commits { CommitsCollections D.history result self.old self.new }
         ensures calls { OnlyWrites D.history result self.old.pager self.new.pager }
         ensures versions { CommitsVersions D.history result self.old self.new }
         ensures pins { pins_of self.new ≡ pins_of self.old }

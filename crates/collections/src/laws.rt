@@ -1,6 +1,6 @@
 //! Laws of turns, each the contract of a function that does nothing.
 
-ghost use Rattle.collections.specs.Laws.{GoesFromItself, GoesFurther, HasOneCount, HasOneState, HasOneVersion, HoldsOne, LeavesStart, ReadsFindRoom, RestsAtStart, ZerosHoldNothing};
+ghost use Rattle.collections.specs.Laws.{ExtendsItself, GoesFurther, HasOneCount, HasOneState, HasOneVersion, HoldsOne, LeavesStart, ReadsFindRoom, RestsAtStart, ZerosHoldNothing};
 ghost use Rattle.collections.specs.Trusting.{TrustingKeepsState};
 ghost use Rattle.collections.specs.Versions.{PinsStay, SinceStartStays, VersionsStay};
 
@@ -38,7 +38,7 @@ pub fn zeros_hold_nothing()
 
 /// A turn goes on from where it is, with nothing done.
 pub fn goes_from_itself<D: Disk>()
-    ensures { GoesFromItself D.history }
+    ensures { ExtendsItself D.history }
 {}
 
 /// What goes on from where a turn has come goes on from where it was.

@@ -218,8 +218,8 @@ module _ (k : ℕ) (w : World) (connection : ℕ) (left : List Pairs) (drawn : k
   same : Next k [] left w
   same = keeps k left w h drawn
 
-  on : (cs : List Collection) → Next k [] left (record w { collections = cs })
-  on cs = keeps k left (record w { collections = cs }) h drawn
+  extends : (cs : List Collection) → Next k [] left (record w { collections = cs })
+  extends cs = keeps k left (record w { collections = cs }) h drawn
 
   inserted : (c : Insert) → Keeps (run_insert w c)
   unfolding run_insert
@@ -230,7 +230,7 @@ module _ (k : ℕ) (w : World) (connection : ℕ) (left : List Pairs) (drawn : k
           (r >>= (λ next. let x : Result (World × Pairs) Refusal =
           Ok (record w { collections = put_collection next w.collections }, pair (codes "n") (int (length c.documents)) no_pairs) in x)))
       at true r = same
-      at false (Ok next) = on (put_collection next w.collections)
+      at false (Ok next) = extends (put_collection next w.collections)
       at false (Err e) = same
 
   counted : (c : Count) → Keeps (run_count w c)
@@ -247,7 +247,7 @@ module _ (k : ℕ) (w : World) (connection : ℕ) (left : List Pairs) (drawn : k
     where
       at : (r : Result (List Collection) Refusal) (q : Result Updated Refusal)
           → Keeps (r >>= (λ next. q >>= (λ u. let x : Result (World × Pairs) Refusal = Ok (record w { collections = next }, update_reply u) in x)))
-      at (Ok next) (Ok u) = on next
+      at (Ok next) (Ok u) = extends next
       at (Ok next) (Err e) = same
       at (Err e) q = same
 
@@ -258,7 +258,7 @@ module _ (k : ℕ) (w : World) (connection : ℕ) (left : List Pairs) (drawn : k
       at : (r : Result (List Collection) Refusal)
           → Keeps (r >>= (λ cs. let x : Result (World × Pairs) Refusal = Ok (record w { collections = cs }, no_pairs) in x))
       at (Err e) = same
-      at (Ok cs) = on cs
+      at (Ok cs) = extends cs
 
   indexed_so : (c : CreateIndexes) → Keeps (run_create_indexes w c)
   unfolding run_create_indexes
@@ -271,7 +271,7 @@ module _ (k : ℕ) (w : World) (connection : ℕ) (left : List Pairs) (drawn : k
           → Keeps (r >>= (λ cs. let x : Result (World × Pairs) Refusal =
           Ok (record w { collections = cs }, create_indexes_reply (index_count w.collections c.namespace) (index_count cs c.namespace) is_new) in x))
       at (Err e) = same
-      at (Ok cs) = on cs
+      at (Ok cs) = extends cs
 
   unindexed_so : (c : DropIndexes) → Keeps (run_drop_indexes w c)
   unfolding run_drop_indexes
@@ -281,7 +281,7 @@ module _ (k : ℕ) (w : World) (connection : ℕ) (left : List Pairs) (drawn : k
           → Keeps (r >>=
           (λ cs. let x : Result (World × Pairs) Refusal = Ok (record w { collections = cs }, drop_indexes_reply (index_count w.collections c.namespace)) in x))
       at (Err e) = same
-      at (Ok cs) = on cs
+      at (Ok cs) = extends cs
 
   dropped_so : (c : DropCollection) → Keeps (run_drop w c)
   unfolding run_drop
@@ -292,7 +292,7 @@ module _ (k : ℕ) (w : World) (connection : ℕ) (left : List Pairs) (drawn : k
           (λ cs. let x : Result (World × Pairs) Refusal = Ok (record w { collections = cs }, drop_reply (index_count w.collections c.namespace) c.namespace) in
           x))
       at (Err e) = same
-      at (Ok cs) = on cs
+      at (Ok cs) = extends cs
 
   listed_so : (c : ListCollections) → Keeps (run_list_collections w c)
   unfolding run_list_collections

@@ -96,7 +96,7 @@ among_set c e (d ∷ ds) (suc i) h = ⊎_elim (λ same. inl (inl same)) (λ more
 -- ---- one command
 
 not_touched : (c d : Cursor) → c.touched ≡ false → d.touched ≡ true → d ≡ c → ⊥
-not_touched c d rests touched same = let wrong : true ≡ false = sym touched ∙ ap (λ (x : Cursor). x.touched) same ∙ rests in absurd cc
+not_touched c d clean touched same = let wrong : true ≡ false = sym touched ∙ ap (λ (x : Cursor). x.touched) same ∙ clean in absurd cc
 
 module _ (w : World) (connection : ℕ) where
   -- a cursor that the turn hasn't touched was open before the command
@@ -111,17 +111,17 @@ module _ (w : World) (connection : ℕ) where
           → Comes (unless full refusals.TooMany
           (r >>= (λ next. let x : Result (World × Pairs) Refusal =
           Ok (record w { collections = put_collection next w.collections }, pair (codes "n") (int (length c.documents)) no_pairs) in x)))
-      at true r d rests h = h
-      at false (Ok next) d rests h = h
-      at false (Err e) d rests h = h
+      at true r d clean h = h
+      at false (Ok next) d clean h = h
+      at false (Err e) d clean h = h
 
   counted : (c : Count) → Comes (run_count w c)
   unfolding run_count
-  counted c d rests h = h
+  counted c d clean h = h
 
   deleted : (c : Delete) → Comes (run_delete w c)
   unfolding run_delete
-  deleted c d rests h = h
+  deleted c d clean h = h
 
   updated : (c : Update) → Comes (run_update w c)
   unfolding run_update
@@ -129,9 +129,9 @@ module _ (w : World) (connection : ℕ) where
     where
       at : (r : Result (List Collection) Refusal) (q : Result Updated Refusal)
           → Comes (r >>= (λ next. q >>= (λ u. let x : Result (World × Pairs) Refusal = Ok (record w { collections = next }, update_reply u) in x)))
-      at (Ok next) (Ok u) d rests h = h
-      at (Ok next) (Err e) d rests h = h
-      at (Err e) q d rests h = h
+      at (Ok next) (Ok u) d clean h = h
+      at (Ok next) (Err e) d clean h = h
+      at (Err e) q d clean h = h
 
   batched : (name : List ℕ) (ds : List Pairs) (n : ℕ) → Comes (first_batch w connection name ds n)
   batched name ds n = at (nat_le (length ds) n) (is_refused connection w.cursors w.next)
@@ -140,10 +140,10 @@ module _ (w : World) (connection : ℕ) where
           → Comes ((if whole then Ok w
           else unless refused refusals.TooMany (Ok (record w { cursors = w.cursors ++ new_cursor w.next connection name (drop n ds) ∷ []; next = w.next + 1 })))
           >>= (λ after. let x : Result (World × Pairs) Refusal = Ok (after, batch_reply (codes "firstBatch") n ds w.next name) in x))
-      at true refused d rests h = h
-      at false true d rests h = h
-      at false false d rests h =
-          ⊎_elim (λ there. there) (λ same. absurd (not_touched d (new_cursor w.next connection name (drop n ds)) rests refl same))
+      at true refused d clean h = h
+      at false true d clean h = h
+      at false false d clean h =
+          ⊎_elim (λ there. there) (λ same. absurd (not_touched d (new_cursor w.next connection name (drop n ds)) clean refl same))
           (among_one_more d (new_cursor w.next connection name (drop n ds)) w.cursors h)
 
   found : (c : Find) → Comes (run_find w connection c)
@@ -157,8 +157,8 @@ module _ (w : World) (connection : ℕ) where
   aggregated c = at (after_pipeline c.pipeline 65535 (documents_of w.collections c.namespace))
     where
       at : (r : Result (List Pairs) Refusal) → Comes (r >>= (λ ds. first_batch w connection c.namespace ds (batch_of (unwrap_or c.batch_size 101) ds)))
-      at (Ok ds) d rests h = batched c.namespace ds (batch_of (unwrap_or c.batch_size 101) ds) d rests h
-      at (Err e) d rests h = h
+      at (Ok ds) d clean h = batched c.namespace ds (batch_of (unwrap_or c.batch_size 101) ds) d clean h
+      at (Err e) d clean h = h
 
   given : (c : GetMore) → Comes (run_get_more w connection c)
   unfolding run_get_more
@@ -169,21 +169,21 @@ module _ (w : World) (connection : ℕ) where
           else set w.cursors place
           (record (cursor_at w.cursors place)
           { rest = drop (batch_len_of (cursor_at w.cursors place) c.batch_size) (cursor_at w.cursors place).rest; touched = true })) → IsAmong d w.cursors
-      ended place true d rests h = among_removed d w.cursors place h
-      ended place false d rests h =
+      ended place true d clean h = among_removed d w.cursors place h
+      ended place false d clean h =
           let moved : Cursor =
           record (cursor_at w.cursors place)
           { rest = drop (batch_len_of (cursor_at w.cursors place) c.batch_size) (cursor_at w.cursors place).rest; touched = true } in
-          ⊎_elim (λ there. there) (λ same. absurd (not_touched d moved rests refl same)) (among_set d moved w.cursors place h)
+          ⊎_elim (λ there. there) (λ same. absurd (not_touched d moved clean refl same)) (among_set d moved w.cursors place h)
 
       at : (o : Option ℕ) → Comes (or_refused o refusals.CursorNotFound >>= (λ place. let x : Result (World × Pairs) Refusal = Ok (next_batch w c place) in x))
-      at None d rests h = h
-      at (Some place) d rests h =
-          ended place (nat_le (length (cursor_at w.cursors place).rest) (batch_len_of (cursor_at w.cursors place) c.batch_size)) d rests h
+      at None d clean h = h
+      at (Some place) d clean h =
+          ended place (nat_le (length (cursor_at w.cursors place).rest) (batch_len_of (cursor_at w.cursors place) c.batch_size)) d clean h
 
   killed : (c : KillCursors) → Comes (run_kill_cursors w connection c)
   unfolding run_kill_cursors
-  killed c d rests h = among_all (λ cursor. not (is_asked connection c.namespace c.cursors cursor)) d w.cursors h
+  killed c d clean h = among_all (λ cursor. not (is_asked connection c.namespace c.cursors cursor)) d w.cursors h
 
   made : (c : Create) → Comes (run_create w c)
   unfolding run_create
@@ -191,8 +191,8 @@ module _ (w : World) (connection : ℕ) where
     where
       at : (r : Result (List Collection) Refusal)
           → Comes (r >>= (λ cs. let x : Result (World × Pairs) Refusal = Ok (record w { collections = cs }, no_pairs) in x))
-      at (Err e) d rests h = h
-      at (Ok cs) d rests h = h
+      at (Err e) d clean h = h
+      at (Ok cs) d clean h = h
 
   indexed_so : (c : CreateIndexes) → Comes (run_create_indexes w c)
   unfolding run_create_indexes
@@ -204,8 +204,8 @@ module _ (w : World) (connection : ℕ) where
       at : (r : Result (List Collection) Refusal)
           → Comes (r >>= (λ cs. let x : Result (World × Pairs) Refusal =
           Ok (record w { collections = cs }, create_indexes_reply (index_count w.collections c.namespace) (index_count cs c.namespace) is_new) in x))
-      at (Err e) d rests h = h
-      at (Ok cs) d rests h = h
+      at (Err e) d clean h = h
+      at (Ok cs) d clean h = h
 
   unindexed_so : (c : DropIndexes) → Comes (run_drop_indexes w c)
   unfolding run_drop_indexes
@@ -214,8 +214,8 @@ module _ (w : World) (connection : ℕ) where
       at : (r : Result (List Collection) Refusal)
           → Comes (r >>=
           (λ cs. let x : Result (World × Pairs) Refusal = Ok (record w { collections = cs }, drop_indexes_reply (index_count w.collections c.namespace)) in x))
-      at (Err e) d rests h = h
-      at (Ok cs) d rests h = h
+      at (Err e) d clean h = h
+      at (Ok cs) d clean h = h
 
   dropped_so : (c : DropCollection) → Comes (run_drop w c)
   unfolding run_drop
@@ -225,12 +225,12 @@ module _ (w : World) (connection : ℕ) where
           → Comes (r >>=
           (λ cs. let x : Result (World × Pairs) Refusal = Ok (record w { collections = cs }, drop_reply (index_count w.collections c.namespace) c.namespace) in
           x))
-      at (Err e) d rests h = h
-      at (Ok cs) d rests h = h
+      at (Err e) d clean h = h
+      at (Ok cs) d clean h = h
 
   listed_so : (c : ListCollections) → Comes (run_list_collections w c)
   unfolding run_list_collections
-  listed_so c d rests h = h
+  listed_so c d clean h = h
 
   indexes_listed : (c : ListIndexes) → Comes (run_list_indexes w c)
   unfolding run_list_indexes
@@ -239,36 +239,36 @@ module _ (w : World) (connection : ℕ) where
       at : (o : Option Collection)
           → Comes (or_refused o refusals.NamespaceNotFound >>=
           (λ found. let x : Result (World × Pairs) Refusal = Ok (w, indexes_reply c.namespace found.indexes) in x))
-      at None d rests h = h
-      at (Some found) d rests h = h
+      at None d clean h = h
+      at (Some found) d clean h = h
 
   explained : (c : Explain) → Comes (run_explain w c)
   unfolding run_explain
-  explained c d rests h = h
+  explained c d clean h = h
 
   ran : (r : Result Command Refusal) → Comes (r >>= run w connection)
-  ran (Err e) d rests h = h
-  ran (Ok ping) d rests h = h
-  ran (Ok hello) d rests h = h
-  ran (Ok (insert c)) d rests h = inserted c d rests h
-  ran (Ok (find c)) d rests h = found c d rests h
-  ran (Ok (get_more c)) d rests h = given c d rests h
-  ran (Ok (kill_cursors c)) d rests h = killed c d rests h
-  ran (Ok (count c)) d rests h = counted c d rests h
-  ran (Ok (delete c)) d rests h = deleted c d rests h
-  ran (Ok (update c)) d rests h = updated c d rests h
-  ran (Ok (aggregate c)) d rests h = aggregated c d rests h
-  ran (Ok (create c)) d rests h = made c d rests h
-  ran (Ok (drop_of c)) d rests h = dropped_so c d rests h
-  ran (Ok (list_collections c)) d rests h = listed_so c d rests h
-  ran (Ok (create_indexes c)) d rests h = indexed_so c d rests h
-  ran (Ok (drop_indexes c)) d rests h = unindexed_so c d rests h
-  ran (Ok (list_indexes c)) d rests h = indexes_listed c d rests h
-  ran (Ok (explain c)) d rests h = explained c d rests h
+  ran (Err e) d clean h = h
+  ran (Ok ping) d clean h = h
+  ran (Ok hello) d clean h = h
+  ran (Ok (insert c)) d clean h = inserted c d clean h
+  ran (Ok (find c)) d clean h = found c d clean h
+  ran (Ok (get_more c)) d clean h = given c d clean h
+  ran (Ok (kill_cursors c)) d clean h = killed c d clean h
+  ran (Ok (count c)) d clean h = counted c d clean h
+  ran (Ok (delete c)) d clean h = deleted c d clean h
+  ran (Ok (update c)) d clean h = updated c d clean h
+  ran (Ok (aggregate c)) d clean h = aggregated c d clean h
+  ran (Ok (create c)) d clean h = made c d clean h
+  ran (Ok (drop_of c)) d clean h = dropped_so c d clean h
+  ran (Ok (list_collections c)) d clean h = listed_so c d clean h
+  ran (Ok (create_indexes c)) d clean h = indexed_so c d clean h
+  ran (Ok (drop_indexes c)) d clean h = unindexed_so c d clean h
+  ran (Ok (list_indexes c)) d clean h = indexes_listed c d clean h
+  ran (Ok (explain c)) d clean h = explained c d clean h
 
   came : (body : Result Pairs BsonFault) (c : Cursor) → c.touched ≡ false → IsAmong c (step w connection body).0.cursors → IsAmong c w.cursors
-  came (Ok body) c rests h = ran (command_of body) c rests h
-  came (Err fault) c rests h = h
+  came (Ok body) c clean h = ran (command_of body) c clean h
+  came (Err fault) c clean h = h
 
 -- ---- a turn
 
@@ -277,10 +277,10 @@ first_of c w [] h = h
 first_of c w (x ∷ xs) h = h.0
 
 pub stayed : (c : Cursor) (w : World) (xs : List (ℕ × Result Pairs BsonFault)) → c.touched ≡ false → IsAmong c (after_commands w xs).cursors → StaysOpen c w xs
-stayed c w [] rests h = h
-stayed c w (x ∷ xs) rests h =
-    let later = stayed c (step w x.0 x.1).0 xs rests h in
-    (came w x.0 x.1 c rests (first_of c (step w x.0 x.1).0 xs later), later)
+stayed c w [] clean h = h
+stayed c w (x ∷ xs) clean h =
+    let later = stayed c (step w x.0 x.1).0 xs clean h in
+    (came w x.0 x.1 c clean (first_of c (step w x.0 x.1).0 xs later), later)
 
 pub last_of : (c : Cursor) (w : World) (xs : List (ℕ × Result Pairs BsonFault)) → StaysOpen c w xs → IsAmong c (after_commands w xs).cursors
 last_of c w [] h = h
@@ -306,8 +306,8 @@ left_open c w xs h =
 
 pub open_left : (c : Cursor) (w : World) (xs : List (ℕ × Result Pairs BsonFault)) → are_untouched w.cursors ≡ true → StaysOpen c w xs
     → IsAmong c (untouched (after_commands w xs).cursors)
-open_left c w xs rests h =
-    among_kept (λ x. not x.touched) c (after_commands w xs).cursors (rests_among c w.cursors rests (first_of c w xs h)) (last_of c w xs h)
+open_left c w xs clean h =
+    among_kept (λ x. not x.touched) c (after_commands w xs).cursors (rests_among c w.cursors clean (first_of c w xs h)) (last_of c w xs h)
 
 -- A cursor that a turn leaves where it is undone has what it had before the turn.
 pub kept_by_undo : (k : ℕ) (w : World) (xs : List (ℕ × Result Pairs BsonFault)) (had left : List Pairs) → HasLeft k w.cursors had

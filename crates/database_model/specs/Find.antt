@@ -46,6 +46,6 @@ given q found = map (project q.projection) (window q.skip q.limit found)
 
 -- Of the documents that match, in their order, the first ones up to this number are enough, unless
 -- that is the greatest and they are as many.
-abbrev pub Suffices : Query → ℕ → Type 0
-Suffices q most = (ds : List Pairs) → length (take most ds) < 2 ^ 64 - 1
+abbrev pub FirstAreEnough : Query → ℕ → Type 0
+FirstAreEnough q most = (ds : List Pairs) → length (take most ds) < 2 ^ 64 - 1
     → window q.skip q.limit (take most ds) ≡ window q.skip q.limit ds

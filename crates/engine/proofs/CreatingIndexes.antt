@@ -24,13 +24,13 @@ use Rattle.engine.specs.Durable.{disk_history, has_changes, is_stopped, IsRunnin
 use Rattle.engine.specs.Indexing.{ArePlanned, HasDocumentsOf}
 use Rattle.database_model.specs.Insert.{is_full}
 use Rattle.engine.specs.Looking.{Looks, OnlyReads}
-use Rattle.engine.specs.Performing.{Performs}
+use Rattle.engine.specs.Performing.{RunsCommand}
 use Rattle.database_model.specs.Refusals.{ok_reply}
 use Rattle.engine.specs.Storing.{AreNoted, IsFull, Notes}
-use Rattle.engine.specs.Trying.{Tries}
+use Rattle.engine.specs.Trying.{MayRefuse}
 use Rattle.engine.specs.View.{world}
 use Rattle.database_model.specs.World.{World, collection_of, indexes_or_none}
-use Rattle.engine.specs.Writing.{Makes, planned_or, Writes}
+use Rattle.engine.specs.Writing.{ChangesCollections, planned_or, Writes}
 use Rattle.engine.specs.declared.create_indexes.PlannedIndexes.{PlannedIndexes}
 use Rattle.engine.specs.declared.engine.Engine.{Engine}
 use Rattle.engine.proofs.Continuing.{continues_of}
@@ -75,7 +75,7 @@ turned false b e = ap not (sym e)
 
 module _ {D : Type 0} (history : D → History) (name : List ℕ) (ns : List NewIndex) (old : Engine D) where
   abbrev Plans : Result PlannedIndexes Refusal → Engine D → Type 0
-  Plans r new = Tries history (ArePlanned (world old).collections name ns) (λ e. indexed (world old).collections name ns ≡ Err e) r old new
+  Plans r new = MayRefuse history (ArePlanned (world old).collections name ns) (λ e. indexed (world old).collections name ns ≡ Err e) r old new
 
   module _ (mid : Engine D) where
     pub plan_unread : (e : Refusal) → Looks history (IsNumberOf name) (Err e) old mid → Plans (Err e) mid
@@ -84,7 +84,7 @@ module _ {D : Type 0} (history : D → History) (name : List ℕ) (ns : List New
     module _ (found : Option ℕ) (first : Looks history (IsNumberOf name) (Ok found) old mid) (last : Engine D) where
       abbrev Targets : List Edit → Result Catalogued Refusal → Type 0
       Targets edits r =
-          Tries history (λ home. AreNoted (world mid).collections name home edits (collection_of (world mid).collections name))
+          MayRefuse history (λ home. AreNoted (world mid).collections name home edits (collection_of (world mid).collections name))
           (IsFull (world mid).collections name) r mid last
 
       same_mid : (world mid).collections ≡ (world old).collections
@@ -96,7 +96,7 @@ module _ {D : Type 0} (history : D → History) (name : List ℕ) (ns : List New
         answers = λ k. elim (target.answers k) [
           | inl full ↦ inl (indexed_full (world old).collections name ns e (subst (λ (cs : List Collection). IsFull cs name e) same_mid full))
           | inr cause ↦ inr
-              (cause_from history old.file mid.file last.file first.reads.goes (word_before history mid.file last.file target.reads.goes k) e cause)
+              (cause_from history old.file mid.file last.file first.reads.continues (word_before history mid.file last.file target.reads.continues k) e cause)
         ];
       }
 
@@ -120,13 +120,14 @@ module _ {D : Type 0} (history : D → History) (name : List ℕ) (ns : List New
         plan_refused e notes = record {
           reads = all_reads notes.reads;
           answers = λ k.
-              let k_last = word_before history last.file new.file notes.reads.goes k in
+              let k_last = word_before history last.file new.file notes.reads.continues k in
               let noted = noted_first k_last in
               elim (notes.answers k (start (world last).collections) noted refl) [
                 | inl refused ↦ inl
                     (subst (λ (cs : List Collection). indexed cs name ns ≡ Err e) (same_last ∙ same_mid)
                     (indexed_by (world last).collections name ns (Err e) noted.room refused))
-                | inr cause ↦ inr (cause_from history old.file last.file new.file (reads_on history old mid last first.reads target.reads).goes k_last e cause)
+                | inr cause ↦ inr (cause_from history old.file last.file new.file (reads_on history old mid last first.reads target.reads).continues k_last e
+                    cause)
               ];
         }
 
@@ -135,8 +136,8 @@ module _ {D : Type 0} (history : D → History) (name : List ℕ) (ns : List New
         plan_made notes p edits_are before_is after_is new_is = record {
           reads = all_reads notes.reads;
           answers = λ k.
-              let k_last = word_before history last.file new.file notes.reads.goes k in
-              let k_mid = word_before history mid.file last.file target.reads.goes k_last in
+              let k_last = word_before history last.file new.file notes.reads.continues k in
+              let k_mid = word_before history mid.file last.file target.reads.continues k_last in
               let noted = noted_first k_last in
               let cs = (world last).collections in
               let has = notes.answers k (start cs) noted refl in
@@ -178,17 +179,17 @@ module _ {D : Type 0} (history : D → History) (name : List ℕ) (ns : List New
   abbrev Plan : List Collection → Result (List Collection) Refusal
   Plan cs = indexed cs name ns
 
-  pub put_stopped : is_stopped old ≡ true → Makes history (Plan (world old).collections) (Err refusals.StorageFailed) old old
+  pub put_stopped : is_stopped old ≡ true → ChangesCollections history (Plan (world old).collections) (Err refusals.StorageFailed) old old
   put_stopped stopped =
       makes_none history (Plan (world old).collections) old old refusals.StorageFailed (reads_none history old h) (λ k. inr (inr (refl, inl stopped)))
 
-  pub put_nothing : p.is_new ≡ false → p.after ≤ p.before → Makes history (Plan (world old).collections) (Ok tt) old old
+  pub put_nothing : p.is_new ≡ false → p.after ≤ p.before → ChangesCollections history (Plan (world old).collections) (Ok tt) old old
   put_nothing is_old few = record {
     sound = h;
-    goes = laws.goes_from_itself history old.file;
+    continues = laws.goes_from_itself history old.file;
     start = refl;
     cursors = refl;
-    does = λ k.
+    as_planned = λ k.
         let cs = (world old).collections in
         let a = there k in
         let t = found_there cs name p.is_new a.is_new is_old in
@@ -212,7 +213,8 @@ module _ {D : Type 0} (history : D → History) (name : List ℕ) (ns : List New
       leads_planned p.edits cs (put_collection a.next cs) (Plan cs) (planned_next cs name ns p a) (a.leads (lawful_now history old h k running))
 
   pub put_written : (r : Result (Unit {0}) Refusal) (new : Engine D)
-      → Writes history (planned_or (world old).collections (Plan (world old).collections)) r old new → Makes history (Plan (world old).collections) r old new
+      → Writes history (planned_or (world old).collections (Plan (world old).collections)) r old new
+      → ChangesCollections history (Plan (world old).collections) r old new
   put_written r new writes =
       makes_written history Plan old old new (reads_none history old h) r
       (λ k. let a = there k in
@@ -273,15 +275,15 @@ module _ {D : Type 0} (history : D → History) (name : List ℕ) (ns : List New
   reply = reply_to (world old).collections name (Planned (world old).collections)
 
   abbrev Tried : Result PlannedIndexes Refusal → Type 0
-  Tried r = Tries history (ArePlanned (world old).collections name ns) (λ e. Planned (world old).collections ≡ Err e) r old mid
+  Tried r = MayRefuse history (ArePlanned (world old).collections name ns) (λ e. Planned (world old).collections ≡ Err e) r old mid
 
-  pub create_unplanned : (e : Refusal) → Tried (Err e) → Performs history run (Err e) old mid
+  pub create_unplanned : (e : Refusal) → Tried (Err e) → RunsCommand history run (Err e) old mid
   create_unplanned e tried =
       performs_refused history reply (Planned (world old).collections) run old mid (run_indexes (world old) name ns) e
       (makes_none history (Planned (world old).collections) old mid e tried.reads tried.answers)
 
   module _ (p : PlannedIndexes) (tried : Tried (Ok p)) where
-    pub create_without_memory : (e : Refusal) → e ≡ refusals.OutOfMemory → Performs history run (Err e) old mid
+    pub create_without_memory : (e : Refusal) → e ≡ refusals.OutOfMemory → RunsCommand history run (Err e) old mid
     create_without_memory e is = (performs_memory history old mid run e is tried.reads).performs
 
     pub planned_mid : KeepsWord (disk_history history mid) → ArePlanned (world mid).collections name ns p
@@ -289,30 +291,30 @@ module _ {D : Type 0} (history : D → History) (name : List ℕ) (ns : List New
 
     module _ (new : Engine D) where
       abbrev Behind : Result (Unit {0}) Refusal → Type 0
-      Behind r = Makes history (Planned (world mid).collections) r mid new
+      Behind r = ChangesCollections history (Planned (world mid).collections) r mid new
 
-      create_behind : (r : Result (Unit {0}) Refusal) → Behind r → Makes history (Planned (world old).collections) r old new
+      create_behind : (r : Result (Unit {0}) Refusal) → Behind r → ChangesCollections history (Planned (world old).collections) r old new
       create_behind r m = makes_behind history Planned old mid new tried.reads r m
 
-      pub create_undone : (e : Refusal) → Behind (Err e) → Performs history run (Err e) old new
+      pub create_undone : (e : Refusal) → Behind (Err e) → RunsCommand history run (Err e) old new
       create_undone e m =
           performs_refused history reply (Planned (world old).collections) run old new (run_indexes (world old) name ns) e (create_behind (Err e) m)
 
       pub create_done : (before after : ℕ) (d : Pairs) → before ≡ 1 + p.before → after ≡ 1 + p.after
-          → d ≡ ok_reply (create_indexes_reply before after p.is_new) → Behind (Ok tt) → Performs history run (Ok d) old new
+          → d ≡ ok_reply (create_indexes_reply before after p.is_new) → Behind (Ok tt) → RunsCommand history run (Ok d) old new
       create_done before after d before_is after_is said m =
           let makes = create_behind (Ok tt) m in
           record {
             sound = makes.sound;
-            goes = continues_of history old new makes.goes;
+            continues = continues_of history old new makes.continues;
             start = makes.start;
-            does = λ k.
+            as_planned = λ k.
                 let cs = (world old).collections in
-                let a = tried.answers (word_before history mid.file new.file m.goes k) in
+                let a = tried.answers (word_before history mid.file new.file m.continues k) in
                 let counts = counted cs name ns p a in
                 let told : d ≡ ok_reply reply =
                 said ∙ (λ i. ok_reply (create_indexes_reply ((before_is ∙ counts.0) i) ((after_is ∙ counts.1) i) (a.is_new i))) in
-                (performs_done history reply (Planned cs) run old new (run_indexes (world old) name ns) d told makes).does k;
+                (performs_done history reply (Planned cs) run old new (run_indexes (world old) name ns) d told makes).as_planned k;
             left = tt;
             refused = tt;
             keeps = makes.keeps;
@@ -324,9 +326,9 @@ module _ {D : Type 0} (history : D → History) (name : List ℕ) (ns : List New
           → has_changes new ≡ has_changes old
       create_changes m quiet k same =
           let cs = (world old).collections in
-          let a = tried.answers (word_before history mid.file new.file m.goes k) in
-          let does = (create_behind (Ok tt) m).does k in
+          let a = tried.answers (word_before history mid.file new.file m.continues k) in
+          let as_planned = (create_behind (Ok tt) m).as_planned k in
           let stays : put_collection a.next cs ≡ cs =
-          ap (planned_or cs) (sym (planned_next cs name ns p a) ∙ does) ∙ same in
+          ap (planned_or cs) (sym (planned_next cs name ns p a) ∙ as_planned) ∙ same in
           let none = nothing_changed cs name ns p a stays in
           quiet none.0 none.1 ∙ tried.reads.changes

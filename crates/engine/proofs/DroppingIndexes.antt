@@ -31,14 +31,14 @@ use Rattle.database_model.specs.DropCollection.{index_count}
 use Rattle.database_model.specs.DropIndexes.{dropped_in, drop_indexes_reply, index_dropped, is_dropped, left_by, remaining, run_drop_indexes}
 use Rattle.engine.specs.Durable.{disk_history, has_changes, is_stopped, IsRunning, IsSound}
 use Rattle.engine.specs.Looking.{Looks, LooksOf, OnlyReads}
-use Rattle.engine.specs.Performing.{Performs}
+use Rattle.engine.specs.Performing.{RunsCommand}
 use Rattle.database_model.specs.Refusals.{ok_reply}
 use Rattle.engine.specs.Storing.{AreNoted, HasNoted, Notes}
 use Rattle.engine.specs.TakingOut.{HasHome}
 use Rattle.engine.specs.Unindexing.{HasKeysIn, HasOtherIndexes, IsIndexedBy, IsUnindexed, drop_at, drop_each}
 use Rattle.engine.specs.View.{world}
 use Rattle.database_model.specs.World.{World, indexes_or_none}
-use Rattle.engine.specs.Writing.{Makes, planned_or, Writes}
+use Rattle.engine.specs.Writing.{ChangesCollections, planned_or, Writes}
 use Rattle.engine.specs.declared.engine.Engine.{Engine}
 use Rattle.engine.proofs.CataloguedLemmas.{IsCatalogueOf, has_home, not_catalogued, some_same}
 use Rattle.index_list.proofs.DroppedIndexLemmas.{all_remain, dropped_there, fewer_remain, remain_without}
@@ -81,7 +81,7 @@ module _ {D : Type 0} (history : D → History) (old : Engine D) (h : IsSound hi
     Unindexes r = LooksOf history (IsIndexedBy home.number i) (IsUnindexed home.number i before mid) r old last
 
     lawful_then : OnlyReads history old last → KeepsWord (disk_history history last) → states.IsLawfulState cs
-    lawful_then reads k = lawful_now history old h (word_before history old.file last.file reads.goes k) running
+    lawful_then reads k = lawful_now history old h (word_before history old.file last.file reads.continues k) running
 
     listed_there : (c : Collection) → AreNoted cs name home before c → Among i c.indexes
     listed_there c noted =
@@ -176,7 +176,7 @@ module _ {D : Type 0} (history : D → History) (name : List ℕ) (away : Droppe
     reached_so : OnlyReads history mid new → KeepsWord (disk_history history new) → (first : Collection)
         → AreNoted (world old).collections name home_before before first → HasOtherIndexes (world old).collections name first
         → HasLeft (world old).collections name away home edits first
-    reached_so later k first noted so = far.answers (word_before history mid.file new.file later.goes k) first noted so
+    reached_so later k first noted so = far.answers (word_before history mid.file new.file later.continues k) first noted so
 
     now_noted : (first : Collection) (f : HasLeft (world old).collections name away home edits first)
         → AreNoted (world mid).collections name home edits f.reached × HasOtherIndexes (world mid).collections name f.reached
@@ -191,7 +191,8 @@ module _ {D : Type 0} (history : D → History) (name : List ℕ) (away : Droppe
           let now = now_noted first f in
           elim (step.answers k f.reached now.0 now.1) [
             | inl refused ↦ absurd cc
-            | inr cause ↦ inr (cause_from history old.file mid.file new.file far.reads.goes (word_before history mid.file new.file step.reads.goes k) e cause)
+            | inr cause ↦ inr (cause_from history old.file mid.file new.file far.reads.continues
+                (word_before history mid.file new.file step.reads.continues k) e cause)
           ];
     }
 
@@ -254,13 +255,13 @@ module _ {D : Type 0} (history : D → History) (name : List ℕ) (away : Droppe
   found_as : (ds : List Collection) (t : HasHome ds name home) → find_collection ds t.collection.name ≡ Some t.collection
   found_as ds t = subst (λ (m : List ℕ). find_collection ds m ≡ Some t.collection) (found_name ds name t.collection t.found) t.found
 
-  pub removes_none : position (is_dropped away) home.indexes.items ≡ None → Makes history (Plan (world old).collections) (Ok tt) old old
+  pub removes_none : position (is_dropped away) home.indexes.items ≡ None → ChangesCollections history (Plan (world old).collections) (Ok tt) old old
   removes_none none = record {
     sound = h;
-    goes = laws.goes_from_itself history old.file;
+    continues = laws.goes_from_itself history old.file;
     start = refl;
     cursors = refl;
-    does = λ k.
+    as_planned = λ k.
         let ds = (world old).collections in
         let t = there k in
         let c = t.collection in
@@ -298,9 +299,9 @@ module _ {D : Type 0} (history : D → History) (name : List ℕ) (away : Droppe
     other_first : (t : HasHome (world old).collections name home) → HasOtherIndexes (world old).collections name t.collection
     other_first t = record { whole = t.collection; found = t.found; same = refl }
 
-    pub removes_refused : (e : Refusal) → NotesThem (Err e) → Makes history (Plan (world old).collections) (Err e) old last
+    pub removes_refused : (e : Refusal) → NotesThem (Err e) → ChangesCollections history (Plan (world old).collections) (Err e) old last
     removes_refused e notes = makes_none history (Plan (world old).collections) old last e notes.reads (λ k.
-        let t = there (word_before history old.file last.file notes.reads.goes k) in
+        let t = there (word_before history old.file last.file notes.reads.continues k) in
         elim (notes.answers k t.collection (noted_first t) (other_first t)) [
           | inl refused ↦ absurd cc
           | inr cause ↦ inr cause
@@ -311,14 +312,15 @@ module _ {D : Type 0} (history : D → History) (name : List ℕ) (away : Droppe
       same_last = now_same history old last notes.reads
 
       home_last : KeepsWord (disk_history history last) → HasHome (world last).collections name home
-      home_last k = subst (λ (ds : List Collection). HasHome ds name home) (sym same_last) (there (word_before history old.file last.file notes.reads.goes k))
+      home_last k = subst (λ (ds : List Collection). HasHome ds name home) (sym same_last)
+          (there (word_before history old.file last.file notes.reads.continues k))
 
       pub removes_leads : KeepsWord (disk_history history last) → IsRunning last
           → Leads after (world last).collections (planned_or (world last).collections (Plan (world last).collections))
           × states.IsLawfulState (planned_or (world last).collections (Plan (world last).collections))
       removes_leads k running =
           let ds = (world old).collections in
-          let t = there (word_before history old.file last.file notes.reads.goes k) in
+          let t = there (word_before history old.file last.file notes.reads.continues k) in
           let has = notes.answers k t.collection (noted_first t) (other_first t) in
           let is : left_of t.collection ≡ has.next = ap (λ (r : Result Collection Refusal). elim r [ Ok z ↦ z | Err f ↦ left_of t.collection ]) has.is in
           let lawful : states.IsLawfulState ds = subst states.IsLawfulState same_last (lawful_now history last notes.reads.sound k running) in
@@ -329,7 +331,7 @@ module _ {D : Type 0} (history : D → History) (name : List ℕ) (away : Droppe
 
       pub removes_written : (r : Result (Unit {0}) Refusal) (new : Engine D)
           → Writes history (planned_or (world last).collections (Plan (world last).collections)) r last new
-          → Makes history (Plan (world old).collections) r old new
+          → ChangesCollections history (Plan (world old).collections) r old new
       removes_written r new writes =
           makes_written history Plan old last new notes.reads r
           (λ k. let t = home_last k in
@@ -373,7 +375,7 @@ module _ {D : Type 0} (history : D → History) (name : List ℕ) (away : Droppe
   abbrev told : ℕ
   told = index_count (world old).collections name
 
-  pub unlisted_missing : Looks history (IsCatalogueOf name) (Ok None) old mid → Performs history run (Err refusals.NamespaceNotFound) old mid
+  pub unlisted_missing : Looks history (IsCatalogueOf name) (Ok None) old mid → RunsCommand history run (Err refusals.NamespaceNotFound) old mid
   unlisted_missing first =
       performs_refused history (drop_indexes_reply told) planned run old mid (run_drops (world old) name away) refusals.NamespaceNotFound
       (makes_none history planned old mid refusals.NamespaceNotFound first.reads
@@ -387,41 +389,41 @@ module _ {D : Type 0} (history : D → History) (name : List ℕ) (away : Droppe
     unlisted_home k = subst (λ (ds : List Collection). HasHome ds name home) (sym (now_same history old mid first.reads)) (home_of k)
 
     -- they may not be dropped
-    pub unlisted_refused : (e : Refusal) → left_by away home.indexes.items ≡ Err e → Performs history run (Err e) old mid
+    pub unlisted_refused : (e : Refusal) → left_by away home.indexes.items ≡ Err e → RunsCommand history run (Err e) old mid
     unlisted_refused e refused =
         performs_refused history (drop_indexes_reply told) planned run old mid (run_drops (world old) name away) e
         (makes_none history planned old mid e first.reads (λ k.
         let t = home_of k in
         inl (dropped_there (world old).collections name away t.collection t.found (Err e) (ap (left_by away) t.catalogued.indexed ∙ refused))))
 
-    pub unlisted_without_memory : (e : Refusal) → e ≡ refusals.OutOfMemory → Performs history run (Err e) old mid
+    pub unlisted_without_memory : (e : Refusal) → e ≡ refusals.OutOfMemory → RunsCommand history run (Err e) old mid
     unlisted_without_memory e is = (performs_memory history old mid run e is first.reads).performs
 
     module _ (new : Engine D) where
       abbrev Behind : Result (Unit {0}) Refusal → Type 0
-      Behind r = Makes history (index_dropped (world mid).collections name away) r mid new
+      Behind r = ChangesCollections history (index_dropped (world mid).collections name away) r mid new
 
-      unlisted_behind : (r : Result (Unit {0}) Refusal) → Behind r → Makes history planned r old new
+      unlisted_behind : (r : Result (Unit {0}) Refusal) → Behind r → ChangesCollections history planned r old new
       unlisted_behind r m = makes_behind history (λ ds. index_dropped ds name away) old mid new first.reads r m
 
-      pub unlisted_undone : (e : Refusal) → Behind (Err e) → Performs history run (Err e) old new
+      pub unlisted_undone : (e : Refusal) → Behind (Err e) → RunsCommand history run (Err e) old new
       unlisted_undone e m =
           performs_refused history (drop_indexes_reply told) planned run old new (run_drops (world old) name away) e (unlisted_behind (Err e) m)
 
       pub unlisted_done : (n : ℕ) (d : Pairs) → d ≡ ok_reply (drop_indexes_reply n) → n ≡ 1 + length home.indexes.items → Behind (Ok tt)
-          → Performs history run (Ok d) old new
+          → RunsCommand history run (Ok d) old new
       unlisted_done n d said many m =
           let makes = unlisted_behind (Ok tt) m in
           record {
             sound = makes.sound;
-            goes = continues_of history old new makes.goes;
+            continues = continues_of history old new makes.continues;
             start = makes.start;
-            does = λ k.
-                let t = home_of (word_before history mid.file new.file m.goes k) in
+            as_planned = λ k.
+                let t = home_of (word_before history mid.file new.file m.continues k) in
                 let counted : n ≡ told = many ∙ ap (λ (is : List Definition). 1 + length is) (sym t.catalogued.indexed)
                 ∙ ap (λ (o : Option Collection). 1 + length (indexes_or_none o)) (sym t.found) in
                 (performs_done history (drop_indexes_reply told) planned run old new (run_drops (world old) name away) d
-                (said ∙ ap (λ (x : ℕ). ok_reply (drop_indexes_reply x)) counted) makes).does k;
+                (said ∙ ap (λ (x : ℕ). ok_reply (drop_indexes_reply x)) counted) makes).as_planned k;
             left = tt;
             refused = tt;
             keeps = makes.keeps;
@@ -433,14 +435,14 @@ module _ {D : Type 0} (history : D → History) (name : List ℕ) (away : Droppe
           → KeepsWord (disk_history history new) → (world new).collections ≡ (world old).collections → has_changes new ≡ has_changes old
       unlisted_changes may m quiet k same =
           let ds = (world old).collections in
-          let t = home_of (word_before history mid.file new.file m.goes k) in
+          let t = home_of (word_before history mid.file new.file m.continues k) in
           let c = t.collection in
           let is = t.catalogued.indexed in
           let next : Collection = record c { indexes = remaining away c.indexes } in
           let plan : planned ≡ Ok (put_collection next ds) =
           dropped_there ds name away c t.found (Ok (remaining away c.indexes))
           (ap (left_by away) is ∙ may ∙ ap (λ (js : List Definition). let r : Result (List Definition) Refusal = Ok (remaining away js) in r) (sym is)) in
-          let stays : put_collection next ds ≡ ds = ap (planned_or ds) (sym plan ∙ (unlisted_behind (Ok tt) m).does k) ∙ same in
+          let stays : put_collection next ds ≡ ds = ap (planned_or ds) (sym plan ∙ (unlisted_behind (Ok tt) m).as_planned k) ∙ same in
           let named = found_name ds name c t.found in
           let found : find_collection ds c.name ≡ Some c = subst (λ (n : List ℕ). find_collection ds n ≡ Some c) named t.found in
           let both : Some next ≡ Some c = sym (finds_put next ds) ∙ ap (λ (es : List Collection). find_collection es c.name) stays ∙ found in

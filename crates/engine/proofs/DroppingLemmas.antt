@@ -30,13 +30,13 @@ use Rattle.database_model.specs.DropCollection.{drop_reply, dropped, index_count
 use Rattle.engine.specs.Dropping.{HasStepped, IsEmptying, IsFilled, IsLeft}
 use Rattle.engine.specs.Durable.{disk_history, is_stopped, IsRunning, IsSound}
 use Rattle.engine.specs.Looking.{Looks, LooksOf, OnlyReads}
-use Rattle.engine.specs.Performing.{Performs}
+use Rattle.engine.specs.Performing.{RunsCommand}
 use Rattle.statements.specs.Redoing.{without_each}
 use Rattle.database_model.specs.Refusals.{ok_reply}
 use Rattle.engine.specs.TakingOut.{AreThere, HasHome, IsHome, IsIndexable, TakesOut}
 use Rattle.engine.specs.View.{world}
 use Rattle.database_model.specs.World.{World, indexes_or_none}
-use Rattle.engine.specs.Writing.{Makes, planned_or, Writes}
+use Rattle.engine.specs.Writing.{ChangesCollections, planned_or, Writes}
 use Rattle.engine.specs.declared.engine.Engine.{Engine}
 use Rattle.engine.proofs.CataloguedLemmas.{IsCatalogueOf, has_home, not_catalogued}
 use Rattle.engine.proofs.Continuing.{continues_of}
@@ -115,23 +115,23 @@ module _ {D : Type 0} (history : D → History) (old : Engine D) (h : IsSound hi
 
   pub batch_unread : (e : Refusal) → Reading (Err e) → Steps (Err e)
   batch_unread e read = record {
-    reads = reads_file history old file h read.on read.unchanged read.same;
+    reads = reads_file history old file h read.extends read.unchanged read.same;
     answers = λ k x is. read.answers k old.told.value.start (world old).collections h.file x.rest is.walks;
   }
 
   module _ (batch : Vec Pairs) (read : Reading (Ok batch)) where
     pub batch_not_removed : (e : Refusal) → (All (IsIndexable home.indexes.items) batch.items → e ≡ refusals.OutOfMemory) → Steps (Err e)
     batch_not_removed e refused = record {
-      reads = reads_file history old file h read.on read.unchanged read.same;
+      reads = reads_file history old file h read.extends read.unchanged read.same;
       answers = λ k x is.
           let next = read.answers k old.told.value.start (world old).collections h.file x.rest is.walks in
-          let state = lawful_now history old h (word_before history old.file file read.on k) running in
+          let state = lawful_now history old h (word_before history old.file file read.extends k) running in
           inl (refused (All-prefix (IsIndexable home.indexes.items) (length batch.items) x.rest batch.items (is.indexable state) next.0.first));
     }
 
     pub batch_removed : (more : Bool) → TakesOut before after home.number home.indexes.items batch.items → (more ≡ false → batch.items ≡ []) → Steps (Ok more)
     batch_removed more takes empty = record {
-      reads = reads_file history old file h read.on read.unchanged read.same;
+      reads = reads_file history old file h read.extends read.unchanged read.same;
       answers = λ k x is.
           let cs = (world old).collections in
           let next = read.answers k old.told.value.start cs h.file x.rest is.walks in
@@ -217,21 +217,21 @@ module _ {D : Type 0} (history : D → History) (home : Catalogued) (before : Li
     left_now : OnlyReads history mid new → KeepsWord (disk_history history new) → (c : Collection) → IsFilled home before (world old).collections c
         → Left home walk edits (world mid).collections c
     left_now more k c is =
-        subst (λ (cs : List Collection). Left home walk edits cs c) (sym same_now) (far.answers (word_before history mid.file new.file more.goes k) c is)
+        subst (λ (cs : List Collection). Left home walk edits cs c) (sym same_now) (far.answers (word_before history mid.file new.file more.continues k) c is)
 
     pub emptied_refused : (last : List Edit) (e : Refusal) → Step (Err e) → Empties last (Err e) new
     emptied_refused last e step = record {
       reads = reads_on history old mid new far.reads step.reads;
       answers = λ k c is.
           let l = left_now step.reads k c is in
-          cause_from history old.file mid.file new.file far.reads.goes (word_before history mid.file new.file step.reads.goes k) e
+          cause_from history old.file mid.file new.file far.reads.continues (word_before history mid.file new.file step.reads.continues k) e
           (step.answers k (record { collection = c; rest = l.rest }) l.emptying);
     }
 
     pub emptied_on : Step (Ok true) → IsEmptiedTo history home before after later old new
     emptied_on step = record {
       reads = reads_on history old mid new far.reads step.reads;
-      running = stopped_same history mid.file.pager new.file.pager step.reads.goes.stays ∙ far.running;
+      running = stopped_same history mid.file.pager new.file.pager step.reads.continues.stays ∙ far.running;
       answers = λ k c is.
           let l = left_now step.reads k c is in
           let has = step.answers k (record { collection = c; rest = l.rest }) l.emptying in
@@ -255,7 +255,7 @@ module _ {D : Type 0} (history : D → History) (name : List ℕ) (home : Catalo
   Plan cs = dropped cs name
 
   abbrev Drops : Result (Unit {0}) Refusal → Engine D → Type 0
-  Drops r new = Makes history (Plan (world old).collections) r old new
+  Drops r new = ChangesCollections history (Plan (world old).collections) r old new
 
   module _ (last : Engine D) (before edits : List Edit) (none : before ≡ []) where
     abbrev Emptying : Result (Unit {0}) Refusal → Type 0
@@ -270,7 +270,7 @@ module _ {D : Type 0} (history : D → History) (name : List ℕ) (home : Catalo
 
     pub drop_refused : (e : Refusal) → Emptying (Err e) → Drops (Err e) last
     drop_refused e emptying = makes_none history (Plan (world old).collections) old last e emptying.reads (λ k.
-        let t = there (word_before history old.file last.file emptying.reads.goes k) in
+        let t = there (word_before history old.file last.file emptying.reads.continues k) in
         inr (emptying.answers k t.collection (filled t)))
 
     module _ (emptied : Emptying (Ok tt)) where
@@ -283,14 +283,14 @@ module _ {D : Type 0} (history : D → History) (name : List ℕ) (home : Catalo
 
       there_last : KeepsWord (disk_history history last) → HasHome (world last).collections name home
       there_last k =
-          subst (λ (cs : List Collection). HasHome cs name home) (sym same_last) (there (word_before history old.file last.file emptied.reads.goes k))
+          subst (λ (cs : List Collection). HasHome cs name home) (sym same_last) (there (word_before history old.file last.file emptied.reads.continues k))
 
       pub drop_leads : (next : List Edit) → RemovesCollection edits next name → KeepsWord (disk_history history last) → IsRunning last
           → Leads next (world last).collections (planned_or (world last).collections (Plan (world last).collections))
           × IsLawfulState (planned_or (world last).collections (Plan (world last).collections))
       drop_leads next removes k running =
           let cs = (world last).collections in
-          let t = there (word_before history old.file last.file emptied.reads.goes k) in
+          let t = there (word_before history old.file last.file emptied.reads.continues k) in
           let left : IsLeft cs t.collection edits [] =
           subst (λ (ds : List Collection). IsLeft ds t.collection edits []) (sym same_last) (emptied.answers k t.collection (filled t)) in
           let found : find_collection cs name ≡ Some t.collection = ap (λ (ds : List Collection). find_collection ds name) same_last ∙ t.found in
@@ -315,7 +315,7 @@ module _ {D : Type 0} (history : D → History) (name : List ℕ) (old mid : Eng
   told = index_count (world old).collections name
 
   -- it is missing
-  pub drop_missing : Looks history (IsCatalogueOf name) (Ok None) old mid → Performs history run (Err refusals.NamespaceNotFound) old mid
+  pub drop_missing : Looks history (IsCatalogueOf name) (Ok None) old mid → RunsCommand history run (Err refusals.NamespaceNotFound) old mid
   drop_missing first =
       performs_refused history (drop_reply told name) (dropped (world old).collections name) run old mid (run_drops (world old) name) refusals.NamespaceNotFound
       (makes_none history (dropped (world old).collections name) old mid refusals.NamespaceNotFound first.reads
@@ -331,31 +331,31 @@ module _ {D : Type 0} (history : D → History) (name : List ℕ) (old mid : Eng
 
     module _ (new : Engine D) where
       abbrev Behind : Result (Unit {0}) Refusal → Type 0
-      Behind r = Makes history (dropped (world mid).collections name) r mid new
+      Behind r = ChangesCollections history (dropped (world mid).collections name) r mid new
 
-      pub drop_behind : (r : Result (Unit {0}) Refusal) → Behind r → Makes history (dropped (world old).collections name) r old new
+      pub drop_behind : (r : Result (Unit {0}) Refusal) → Behind r → ChangesCollections history (dropped (world old).collections name) r old new
       drop_behind r m = makes_behind history (λ cs. dropped cs name) old mid new first.reads r m
 
-      pub drop_undone : (e : Refusal) → Behind (Err e) → Performs history run (Err e) old new
+      pub drop_undone : (e : Refusal) → Behind (Err e) → RunsCommand history run (Err e) old new
       drop_undone e m =
           performs_refused history (drop_reply told name) (dropped (world old).collections name) run old new (run_drops (world old) name) e
           (drop_behind (Err e) m)
 
       -- the reply was made of what the catalogue has
       pub drop_done : (n : ℕ) (d : Pairs) → d ≡ ok_reply (drop_reply n name) → n ≡ 1 + length home.indexes.items → Behind (Ok tt)
-          → Performs history run (Ok d) old new
+          → RunsCommand history run (Ok d) old new
       drop_done n d said many m =
           let makes = drop_behind (Ok tt) m in
           record {
             sound = makes.sound;
-            goes = continues_of history old new makes.goes;
+            continues = continues_of history old new makes.continues;
             start = makes.start;
-            does = λ k.
-                let t = home_of (word_before history mid.file new.file m.goes k) in
+            as_planned = λ k.
+                let t = home_of (word_before history mid.file new.file m.continues k) in
                 let counted : n ≡ told = many ∙ ap (λ (is : List Definition). 1 + length is) (sym t.catalogued.indexed)
                 ∙ ap (λ (o : Option Collection). 1 + length (indexes_or_none o)) (sym t.found) in
                 (performs_done history (drop_reply told name) (dropped (world old).collections name) run old new (run_drops (world old) name) d
-                (said ∙ ap (λ (x : ℕ). ok_reply (drop_reply x name)) counted) makes).does k;
+                (said ∙ ap (λ (x : ℕ). ok_reply (drop_reply x name)) counted) makes).as_planned k;
             left = tt;
             refused = tt;
             keeps = makes.keeps;

@@ -66,7 +66,7 @@ module _ {D : Type 0} (history : D → History) (old new : Engine D) where
       pub dump_stopped : is_stopped (file_of new) ≡ true → BeginsDump history name (Err faults.Device) old new
       dump_stopped stopped = record {
         reads = looks.reads;
-        answers = λ k. inl (sym (stopped_same history (file_of old).pager (file_of new).pager looks.reads.goes.stays) ∙ stopped);
+        answers = λ k. inl (sym (stopped_same history (file_of old).pager (file_of new).pager looks.reads.continues.stays) ∙ stopped);
       }
 
       pub dump_begun : (number : ℕ) (walk : Walk) → found ≡ Some number → is_stopped (file_of new) ≡ false → BeginsWalk history (file_of new) number walk

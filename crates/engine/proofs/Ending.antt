@@ -2,7 +2,7 @@
 use Rattle.std.proofs.Common.{◌≡◌, ◌≢◌, ◌⊎◌, inl, inr, arith, ℕ, true, false, List, map, Result, Ok, Err, refl, sym, ap, subst, ◌∙◌, ◌+◌, ◌-◌, ◌≤◌, ◌^◌}
 use Rattle.std.specs.Prelude.{not, All, Bool, if◌then◌else◌}
 use Rattle.page.specs.History.{History, KeepsWord}
-use Rattle.page.specs.Crash.{GoesOn, LeavesOnly, LeavesNow}
+use Rattle.page.specs.Crash.{ExtendsHistory, LeavesOnly, CrashLeaves}
 use Rattle.page.proofs.Moments.{goes_nowhere, started}
 use Rattle.btree.specs.Store.{HasNoPage, Store}
 use Rattle.roots.specs.declared.store.CommitFault.{CommitFault}
@@ -26,16 +26,16 @@ use Rattle.engine.proofs.UntouchedCursors.{rested_untouched, untouched_untouched
 use Rattle.std.proofs.lemmas.List.Elements.{All-filter, All-map}
 use Rattle.database_model.specs.Lawful.{IsWithin, IsLawfulState, AreLawfulCursors}
 use Rattle.engine.specs.View.{world_of, world, turn_start}
-use Rattle.engine.specs.Durable.{disk_history, full_takes_of, generation, has_changes, is_stopped, IsRunning, IsSound}
-use Rattle.opening.specs.Holding.{Holds}
-use Rattle.engine.specs.Committing.{Commits, FoundNoPage}
+use Rattle.engine.specs.Durable.{disk_history, failed_allocations_of, generation, has_changes, is_stopped, IsRunning, IsSound}
+use Rattle.opening.specs.Holding.{HoldsCollections}
+use Rattle.engine.specs.Committing.{CommitsTurn, FoundNoPage}
 use Rattle.engine.specs.declared.engine.Engine.{Engine}
 
 -- the end of a turn changes no cursor's documents
 rested_lawful : (cs : List Cursor) → AreLawfulCursors cs → AreLawfulCursors (map at_rest cs)
 rested_lawful cs h = All-map (λ (c : Cursor). All IsWithin c.rest) at_rest cs h
 
-no_page_then : (a b c : Store) → HasNoPage a b → c.full_takes ≡ b.full_takes → HasNoPage a c
+no_page_then : (a b c : Store) → HasNoPage a b → c.failed_allocations ≡ b.failed_allocations → HasNoPage a c
 no_page_then a b c (inl more) same = inl (omega (arith, more, same))
 no_page_then a b c (inr most) same = inr (same ∙ most)
 
@@ -49,7 +49,7 @@ undone_of_pins history a b c pins undoes = record {
     reads = undoes.untouched.reads ∙ pins.untouched.reads;
   };
   takes = undoes.takes ∙ pins.takes;
-  rests = undoes.rests;
+  clean = undoes.clean;
   state = λ start now has. undoes.state start now (pins.state start now has);
 }
 
@@ -58,7 +58,7 @@ failed fault = Err fault
 
 module _ {D : Type 0} (history : D → History) (old new : Engine D) (h : IsSound history old) where
   -- until the commit a crash leaves the collections from the beginning of the turn
-  pub holds_start : IsRunning old → LeavesNow (disk_history history old) (λ image. Holds image (turn_start old))
+  pub holds_start : IsRunning old → CrashLeaves (disk_history history old) (λ image. HoldsCollections image (turn_start old))
   holds_start run k image is = record
       { lawful = h.before; file = laws.leaves_start history old.file (turn_start old) (world old).collections run h.file k image is }
 
@@ -74,8 +74,8 @@ module _ {D : Type 0} (history : D → History) (old new : Engine D) (h : IsSoun
 
     pub kept_as_it_is : cursors ≡ all_at_rest old.cursors
         → table_of cursors ≡ record (table_of old.cursors) { list = map at_rest (cursors_of old.cursors) } → turn_start old ≡ (world old).collections
-        → has_changes old ≡ false → Commits history (Ok tt) old quiet_engine
-    kept_as_it_is held made idle rests = record {
+        → has_changes old ≡ false → CommitsTurn history (Ok tt) old quiet_engine
+    kept_as_it_is held made idle clean = record {
       sound = record {
         lawful = h.lawful;
         cursors = subst (λ (t : CursorTable). AreLawfulCursors t.list) (sym made) (rested_lawful (cursors_of old.cursors) h.cursors);
@@ -84,30 +84,31 @@ module _ {D : Type 0} (history : D → History) (old new : Engine D) (h : IsSoun
         file = h.file;
         unchanged = h.unchanged;
         tied = subst (λ (hs : Held). AreTied old.is_changed history old.file hs.list) (sym held)
-            (subst (λ (b : Bool). AreTied b history old.file (map rested old.cursors.list)) (sym rests)
+            (subst (λ (b : Bool). AreTied b history old.file (map rested old.cursors.list)) (sym clean)
             (tied_rested history old.file old.cursors.list
-            (subst (λ (b : Bool). AreTied b history old.file old.cursors.list) rests h.tied)));
+            (subst (λ (b : Bool). AreTied b history old.file old.cursors.list) clean h.tied)));
       };
-      on = goes_nowhere (disk_history history old);
+      extends = goes_nowhere (disk_history history old);
       done = ap (world_of old.told.value) made;
       stops = λ e. absurd cc;
       memory = λ e. absurd cc;
       clear = λ e. absurd cc;
       full = λ e. absurd cc;
-      version = sym (counted rests);
+      version = sym (counted clean);
       ended = idle;
       takes = omega arith;
       found = λ e. refl;
       running = λ e. refl;
       any_moment =
-          λ run. started (disk_history history old) (λ image. Holds image (turn_start old) ⊎ Holds image (world old).collections)
+          λ run. started (disk_history history old) (λ image. HoldsCollections image (turn_start old) ⊎ HoldsCollections image (world old).collections)
           (λ k image left. inl (holds_start run k image left));
       kept = λ run e. tt;
-      acknowledged = λ run. subst (λ (cs : List Collection). LeavesNow (disk_history history old) (λ image. Holds image cs)) idle (holds_start run);
+      acknowledged = λ run. subst (λ (cs : List Collection). CrashLeaves (disk_history history old) (λ image. HoldsCollections image cs)) idle
+          (holds_start run);
       device = λ e k. absurd cc;
       idle = λ e. refl;
       quiet = λ e. (refl, refl);
-      rests = rests;
+      clean = clean;
       rested = subst (λ (t : CursorTable). are_untouched t.list ≡ true) (sym made) (rested_untouched (cursors_of old.cursors));
     }
 
@@ -119,7 +120,7 @@ module _ {D : Type 0} (history : D → History) (old new : Engine D) (h : IsSoun
 
   -- What was committed, or cut off, or taken back, has changed nothing any more.
   at_rest_again : has_changes new ≡ false → AreTied false history new.file new.cursors.list → AreTied (has_changes new) history new.file new.cursors.list
-  at_rest_again rests = subst (λ (b : Bool). AreTied b history new.file new.cursors.list) (sym rests)
+  at_rest_again clean = subst (λ (b : Bool). AreTied b history new.file new.cursors.list) (sym clean)
 
   -- the file runs where it found no room
   pub ran_before : (mid : State D) → files.FindsNoRoom history old.file mid → views.is_stopped mid ≡ false → views.is_stopped old.file ≡ false
@@ -148,7 +149,7 @@ module _ {D : Type 0} (history : D → History) (old new : Engine D) (h : IsSoun
         inr (no_page_then (views.pages_of history old.file) (views.pages_of history mid) (views.pages_of history new.file) found.counted undoes.takes)
 
   -- the collections are as they were at the beginning of the turn
-  module _ (rests : has_changes new ≡ false) (back : world new ≡ after_undo (turn_start old) (world old)) (ended : turn_start new ≡ (world new).collections)
+  module _ (clean : has_changes new ≡ false) (back : world new ≡ after_undo (turn_start old) (world old)) (ended : turn_start new ≡ (world new).collections)
       (untouched : IsUntouched history old.file new.file)
       (state : (start now : List Collection) → HasState history old.file start now → HasState history new.file start start)
       (unchanged : views.is_changed new.file ≡ false) (tied : AreTied false history new.file new.cursors.list) where
@@ -168,7 +169,7 @@ module _ {D : Type 0} (history : D → History) (old new : Engine D) (h : IsSoun
       file = subst (λ (cs : List Collection). HasState history new.file cs (world new).collections) (sym first_state)
           (subst (HasState history new.file (turn_start old)) (sym now_state) (state (turn_start old) (world old).collections h.file));
       unchanged = λ running e. unchanged;
-      tied = at_rest_again rests tied;
+      tied = at_rest_again clean tied;
     }
 
     pub rested_again : are_untouched (world new).cursors ≡ true
@@ -179,17 +180,17 @@ module _ {D : Type 0} (history : D → History) (old new : Engine D) (h : IsSoun
 
     pub undone_after : has_changes old ≡ true → (fault : CommitFault) → fault ≢ faults.Device
         → (fault ≡ faults.Full → (generation old ≡ 2 ^ 64 - 1) ⊎ FoundNoPage history old new)
-        → full_takes_of history old ≤ full_takes_of history new
-        → (fault ≢ faults.Full → full_takes_of history new ≡ full_takes_of history old)
-        → Commits history (Err fault) old new
+        → failed_allocations_of history old ≤ failed_allocations_of history new
+        → (fault ≢ faults.Full → failed_allocations_of history new ≡ failed_allocations_of history old)
+        → CommitsTurn history (Err fault) old new
     undone_after moved fault other cause takes found =
         let not_device : (let r : Result (Unit {0}) CommitFault = Err fault in r) ≢ Err faults.Device = λ e. other (ap fault_of e) in
-        let before : IsRunning old → LeavesOnly (disk_history history old) (disk_history history new) (λ image. Holds image (turn_start old)) =
-        λ run. subst (λ (d : History). LeavesOnly (disk_history history old) d (λ image. Holds image (turn_start old))) (sym disk_same)
-        (started (disk_history history old) (λ image. Holds image (turn_start old)) (holds_start run)) in
+        let before : IsRunning old → LeavesOnly (disk_history history old) (disk_history history new) (λ image. HoldsCollections image (turn_start old)) =
+        λ run. subst (λ (d : History). LeavesOnly (disk_history history old) d (λ image. HoldsCollections image (turn_start old))) (sym disk_same)
+        (started (disk_history history old) (λ image. HoldsCollections image (turn_start old)) (holds_start run)) in
         record {
           sound = sound_again;
-          on = subst (GoesOn (disk_history history old)) (sym disk_same) (goes_nowhere (disk_history history old));
+          extends = subst (ExtendsHistory (disk_history history old)) (sym disk_same) (goes_nowhere (disk_history history old));
           done = tt;
           stops = λ e. absurd (not_device e);
           memory = λ e. back;
@@ -206,12 +207,12 @@ module _ {D : Type 0} (history : D → History) (old new : Engine D) (h : IsSoun
           device = λ e k. absurd (not_device e);
           idle = λ e. disk_same;
           quiet = λ e. not_both (has_changes old) moved e;
-          rests = rests;
+          clean = clean;
           rested = rested_again;
         }
 
   -- the collections are as they stand
-  module _ (moved : has_changes old ≡ true) (rests : has_changes new ≡ false) (forth : world new ≡ after_commit (world old))
+  module _ (moved : has_changes old ≡ true) (clean : has_changes new ≡ false) (forth : world new ≡ after_commit (world old))
       (ended : turn_start new ≡ (world new).collections) (tied : AreTied false history new.file new.cursors.list) where
     now_there : (world new).collections ≡ (world old).collections
     now_there = ap (λ (w : World). w.collections) forth
@@ -219,13 +220,14 @@ module _ {D : Type 0} (history : D → History) (old new : Engine D) (h : IsSoun
     there : turn_start new ≡ (world old).collections
     there = ended ∙ now_there
 
-    held : (image : ℕ → List ℕ) → images.Holds image (turn_start old) ⊎ images.Holds image (world old).collections
-        → Holds image (turn_start old) ⊎ Holds image (world old).collections
+    held : (image : ℕ → List ℕ) → images.HoldsState image (turn_start old) ⊎ images.HoldsState image (world old).collections
+        → HoldsCollections image (turn_start old) ⊎ HoldsCollections image (world old).collections
     held image (inl file) = inl (record { lawful = h.before; file = file })
     held image (inr file) = inr (record { lawful = h.lawful; file = file })
 
-    at_any_moment : (r : Result (Unit {0}) CommitFault) → files.Commits history r old.file new.file → IsRunning old
-        → LeavesOnly (disk_history history old) (disk_history history new) (λ image. Holds image (turn_start old) ⊎ Holds image (world old).collections)
+    at_any_moment : (r : Result (Unit {0}) CommitFault) → files.CommitsCollections history r old.file new.file → IsRunning old
+        → LeavesOnly (disk_history history old) (disk_history history new)
+        (λ image. HoldsCollections image (turn_start old) ⊎ HoldsCollections image (world old).collections)
     at_any_moment r saved run k image left = held image ((saved.moves run (turn_start old) (world old).collections h.file).any_moment k image left)
 
     sound_now : HasState history new.file (world old).collections (world old).collections
@@ -238,18 +240,18 @@ module _ {D : Type 0} (history : D → History) (old new : Engine D) (h : IsSoun
       file = subst (λ (cs : List Collection). HasState history new.file cs (world new).collections) (sym there)
           (subst (HasState history new.file (world old).collections) (sym now_there) file);
       unchanged = λ running e. unchanged running;
-      tied = at_rest_again rests tied;
+      tied = at_rest_again clean tied;
     }
 
     rested_now : are_untouched (world new).cursors ≡ true
     rested_now = ap (λ (w : World). are_untouched w.cursors) forth ∙ rested_untouched (world old).cursors
 
-    pub committed_now : files.Commits history (Ok tt) old.file new.file → Commits history (Ok tt) old new
+    pub committed_now : files.CommitsCollections history (Ok tt) old.file new.file → CommitsTurn history (Ok tt) old new
     committed_now saved =
         let moves = saved.moves saved.running.0 (turn_start old) (world old).collections h.file in
         record {
-          sound = sound_now moves.begun (λ running. saved.rests);
-          on = saved.on;
+          sound = sound_now moves.begun (λ running. saved.clean);
+          extends = saved.extends;
           done = forth;
           stops = λ e. absurd cc;
           memory = λ e. absurd cc;
@@ -266,16 +268,16 @@ module _ {D : Type 0} (history : D → History) (old new : Engine D) (h : IsSoun
           device = λ e k. absurd cc;
           idle = λ e. not_both (is_stopped old) e saved.running.0;
           quiet = λ e. not_both (has_changes old) moved e;
-          rests = rests;
+          clean = clean;
           rested = rested_now;
         }
 
-    pub cut_now : files.Commits history (Err faults.Device) old.file new.file → Commits history (Err faults.Device) old new
+    pub cut_now : files.CommitsCollections history (Err faults.Device) old.file new.file → CommitsTurn history (Err faults.Device) old new
     cut_now saved =
         let off = saved.stops refl in
         record {
           sound = sound_now (λ run. not_both (is_stopped new) off run) (λ run. not_both (is_stopped new) off run);
-          on = saved.on;
+          extends = saved.extends;
           done = tt;
           stops = λ e. (forth, off);
           memory = λ e. absurd cc;
@@ -292,6 +294,6 @@ module _ {D : Type 0} (history : D → History) (old new : Engine D) (h : IsSoun
           device = λ e. saved.device refl;
           idle = λ e. ap (λ (f : State D). views.disk_history history f) (saved.idle e);
           quiet = λ e. not_both (has_changes old) moved e;
-          rests = rests;
+          clean = clean;
           rested = rested_now;
         }

@@ -50,7 +50,7 @@ module _ {D : Type 0} (history : D → History) (old : Engine D) (h : IsSound hi
         → Reads history (TellsOf (is_taken home.number text home.indexes.items (map (λ ks. texts_of ks.items) keyed.keys.items)) edits) r old.file file
         → Asks (TellsTaken keyed) r (record old { file = file })
     taken_read r read = record {
-      reads = reads_file history old file h read.on read.unchanged read.same;
+      reads = reads_file history old file h read.extends read.unchanged read.same;
       answers = λ k x is. told r x is (read.answers k old.told.value.start cs h.file);
     }
       where
@@ -78,14 +78,14 @@ module _ {D : Type 0} (history : D → History) (old : Engine D) (h : IsSound hi
     pub duplicate_unread : (e : Refusal) → Reads history (TellsDocument edits home.number text) (Err e) old.file file
         → Asks (TellsDuplicate true keyed) (Err e) (record old { file = file })
     duplicate_unread e read = record {
-      reads = reads_file history old file h read.on read.unchanged read.same;
+      reads = reads_file history old file h read.extends read.unchanged read.same;
       answers = λ k x is. read.answers k old.told.value.start cs h.file;
     }
 
     pub duplicate_there : Reads history (TellsDocument edits home.number text) (Ok true) old.file file
         → Asks (TellsDuplicate true keyed) (Ok true) (record old { file = file })
     duplicate_there read = record {
-      reads = reads_file history old file h read.on read.unchanged read.same;
+      reads = reads_file history old file h read.extends read.unchanged read.same;
       answers = λ k x is.
           let p = read.answers k old.told.value.start cs h.file in
           record { told = ap (λ (b : Bool). b || list_any (clashes x.collection.documents d) x.collection.indexes) (id_read true p x is); lawful = p.state };
@@ -98,8 +98,8 @@ module _ {D : Type 0} (history : D → History) (old : Engine D) (h : IsSound hi
       pub duplicate_by_keys : (r : Result Bool Refusal) → LooksOf history (IsBeside home edits text keyed) (TellsTaken keyed) r mid new
           → Asks (TellsDuplicate true keyed) r new
       duplicate_by_keys r looks = record {
-        reads = reads_on history old mid new (reads_file history old file h read.on read.unchanged read.same) looks.reads;
-        answers = λ k x is. told r x is (word_before history file new.file looks.reads.goes k) (looks.answers k x is);
+        reads = reads_on history old mid new (reads_file history old file h read.extends read.unchanged read.same) looks.reads;
+        answers = λ k x is. told r x is (word_before history file new.file looks.reads.continues k) (looks.answers k x is);
       }
         where
           told : (q : Result Bool Refusal) (x : Beside) → IsBeside home edits text keyed cs x → KeepsWord (disk_history history mid)
@@ -111,7 +111,7 @@ module _ {D : Type 0} (history : D → History) (old : Engine D) (h : IsSound hi
                 told = right.told ∙ ap (λ (t : Bool). t || list_any (clashes x.collection.documents d) x.collection.indexes) missing;
                 lawful = right.lawful;
               }
-          told (Err e) x is k cause = cause_from history old.file file new.file read.on k e cause
+          told (Err e) x is k cause = cause_from history old.file file new.file read.extends k e cause
 
   pub duplicate_of_keys : (r : Result Bool Refusal) (new : Engine D) → Asks (TellsTaken keyed) r new → Asks (TellsDuplicate false keyed) r new
   duplicate_of_keys r new looks = record { reads = looks.reads; answers = λ k x is. told r x (looks.answers k x is) }

@@ -17,7 +17,7 @@ use Rattle.database_model.specs.Lawful.{IsShortIndex}
 use Rattle.database_model.specs.Refusals.{ok_reply}
 use Rattle.database_model.specs.World.{World, indexes_or_none}
 use Rattle.engine.specs.Looking.{Looks}
-use Rattle.engine.specs.Performing.{PerformsReading}
+use Rattle.engine.specs.Performing.{RunsReadingCommand}
 use Rattle.engine.specs.View.{world}
 use Rattle.engine.specs.declared.engine.Engine.{Engine}
 use Rattle.engine.proofs.CataloguedLemmas.{IsCatalogueOf, has_home, not_catalogued}
@@ -62,7 +62,7 @@ module _ {D : Type 0} (history : D → History) (name : List ℕ) (q : Query) (o
 
   -- the collection is missing
   pub explain_missing : Looks history (IsCatalogueOf name) (Ok None) old mid → (d : Pairs) → d ≡ ok_reply (explain_reply (explain_text scan))
-      → PerformsReading history run (Ok d) old mid
+      → RunsReadingCommand history run (Ok d) old mid
   explain_missing first d said_so =
       performs_read history old mid run (Ok d) first.reads
       (λ k. explains scan None refl (not_catalogued (world old).collections name (first.answers k)) (world_same history old mid first.reads) d said_so)
@@ -70,7 +70,7 @@ module _ {D : Type 0} (history : D → History) (name : List ℕ) (q : Query) (o
   -- it is there, and these are its indexes
   pub explain_done : (home : Catalogued) → Looks history (IsCatalogueOf name) (Ok (Some home)) old mid → (plan : Plan)
       → plan ≡ choose q.filter q.sort home.indexes.items → (d : Pairs) → d ≡ ok_reply (explain_reply (explain_text plan))
-      → PerformsReading history run (Ok d) old mid
+      → RunsReadingCommand history run (Ok d) old mid
   explain_done home first plan chosen d said_so =
       performs_read history old mid run (Ok d) first.reads (λ k.
       let t = has_home (world old).collections name home (first.answers k) in

@@ -61,7 +61,7 @@ module _ {D : Type 0} (history : D → History) (old : Engine D) (sound : IsSoun
     pub check_uncounted : (fault : OpenFault) → CountsPages history (Err fault) old.file mid
         → ChecksFile history (Err (reading_fault fault)) old (record old { file = mid })
     check_uncounted fault counted = record {
-      only = leaves_file history old mid sound counted.on counted.unchanged counted.same;
+      only = leaves_file history old mid sound counted.extends counted.unchanged counted.same;
       answers = λ k. count_cause fault (counted.answers k (turn_start old) (world old).collections sound.file);
     }
 
@@ -73,12 +73,12 @@ module _ {D : Type 0} (history : D → History) (old : Engine D) (sound : IsSoun
       after = record old { file = new }
 
       first : LeavesAll history old between
-      first = leaves_file history old mid sound counted.on counted.unchanged counted.same
+      first = leaves_file history old mid sound counted.extends counted.unchanged counted.same
 
       -- what the tree has while the entries are read
       turn_there : KeepsWord (disk_history history between) → IsTurnOf history mid (turn_start old) (world old).collections
       turn_there k =
-          counted.same (turn_start old) (world old).collections sound.file (stopped_same history old.file.pager mid.pager counted.on.stays ∙ running) k
+          counted.same (turn_start old) (world old).collections sound.file (stopped_same history old.file.pager mid.pager counted.extends.stays ∙ running) k
 
       has_these : (k : KeepsWord (disk_history history between)) → HasEntries history mid (turn_there k).after
       has_these k = record { pages = (turn_there k).pages; map = (turn_there k).turn.holds }
@@ -88,19 +88,19 @@ module _ {D : Type 0} (history : D → History) (old : Engine D) (sound : IsSoun
 
       only_reads : (r : Result Loading OpenFault) (last : List Collection) → LoadsFile history r last mid new → LeavesAll history old after
       only_reads r last loads =
-          leaves_on history old between after first (leaves_file history between new first.sound loads.judges.read.on loads.judges.read.unchanged
+          leaves_on history old between after first (leaves_file history between new first.sound loads.judges.read.extends loads.judges.read.unchanged
           loads.judges.read.same)
 
       word_mid : (r : Result Loading OpenFault) (last : List Collection) → LoadsFile history r last mid new → KeepsWord (disk_history history after)
           → KeepsWord (disk_history history between)
-      word_mid r last loads k = word_before history mid new loads.judges.read.on k
+      word_mid r last loads k = word_before history mid new loads.judges.read.extends k
 
       -- ---- its entries weren't read
 
       load_cause : (fault : OpenFault) (last : List Collection) (loads : LoadsFile history (Err fault) last mid new)
           (k : KeepsWord (disk_history history between)) → HasFault history (MakesNone (turn_there k).after) mid new fault
           → HasFaultCause history ⊥ old after (reading_fault fault)
-      load_cause opening.Device last loads k cause = failed_from history old.file mid new counted.on k (cause.device refl)
+      load_cause opening.Device last loads k cause = failed_from history old.file mid new counted.extends k (cause.device refl)
       load_cause opening.Memory last loads k cause = tt
       load_cause opening.Damaged last loads k cause =
           none_unmade (turn_there k).after (world old).collections (turn_there k).spells_now (turn_there k).now_state stored (cause.damaged (λ e. cc) (λ e. cc))

@@ -18,7 +18,7 @@ use Rattle.sort.specs.Sort.{order}
 use Rattle.replies.proofs.Steps.{drop_step}
 use Rattle.queries.proofs.OrderingLemmas.{sorted_kept}
 use Rattle.command_model.specs.Find.{Query}
-use Rattle.database_model.specs.Find.{matching, limited, window, selection, query_result, given, Suffices}
+use Rattle.database_model.specs.Find.{matching, limited, window, selection, query_result, given, FirstAreEnough}
 
 limited_kept : {X : Type 0} (P : X → Type 0) (limit : ℕ) (xs : List X) → All P xs → All P (limited limit xs)
 limited_kept P zero xs h = h
@@ -130,10 +130,10 @@ all_taken q most ds few = ap (λ (es : List Pairs). window q.skip q.limit es) (t
 taken_fewer : (most : ℕ) (ds : List Pairs) → length (take most ds) < most → length ds ≤ most
 taken_fewer most ds few = omega (arith, length-take most ds, few)
 
-pub all_suffice : (q : Query) → Suffices q (2 ^ 64 - 1)
+pub all_suffice : (q : Query) → FirstAreEnough q (2 ^ 64 - 1)
 all_suffice q ds few = all_taken q (2 ^ 64 - 1) ds (taken_fewer (2 ^ 64 - 1) ds few)
 
-pub front_suffices : (q : Query) (most : ℕ) → q.limit ≢ 0 → most ≡ min (q.skip + q.limit) (2 ^ 64 - 1) → Suffices q most
+pub front_suffices : (q : Query) (most : ℕ) → q.limit ≢ 0 → most ≡ min (q.skip + q.limit) (2 ^ 64 - 1) → FirstAreEnough q most
 front_suffices q most some is ds few = at (nat_le (q.skip + q.limit) (2 ^ 64 - 1)) refl
   where
     at : (b : Bool) → nat_le (q.skip + q.limit) (2 ^ 64 - 1) ≡ b → window q.skip q.limit (take most ds) ≡ window q.skip q.limit ds
@@ -147,7 +147,7 @@ front_suffices q most some is ds few = at (nat_le (q.skip + q.limit) (2 ^ 64 - 1
         all_taken q most ds (taken_fewer most ds (omega (arith, few, greatest)))
 
 -- what was found is enough
-pub given_enough : (q : Query) (most : ℕ) (ds found_so : List Pairs) → Suffices q most → found_so ≡ take most (order q.sort (matching q.filter ds))
+pub given_enough : (q : Query) (most : ℕ) (ds found_so : List Pairs) → FirstAreEnough q most → found_so ≡ take most (order q.sort (matching q.filter ds))
     → length found_so < 2 ^ 64 - 1 → given q found_so ≡ query_result q ds
 given_enough q most ds found_so suffices is few =
     ap (map (project q.projection))

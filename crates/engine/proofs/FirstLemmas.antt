@@ -16,7 +16,7 @@ use Rattle.collections.specs.Standing.{HasState}
 use Rattle.collections.specs.State.{State}
 use Rattle.cursors.specs.Held.{Held, Way, cursors_of, listed, ordered, table_of}
 use Rattle.database_model.specs.Cursors.{batch_of, first_batch}
-use Rattle.database_model.specs.Find.{Suffices, matching, query_result, run_find, selection, window}
+use Rattle.database_model.specs.Find.{FirstAreEnough, matching, query_result, run_find, selection, window}
 use Rattle.database_model.specs.Lawful.{AreLawfulCursors}
 use Rattle.database_model.specs.World.{World, documents_of}
 use Rattle.entries.specs.State.{key_of}
@@ -41,7 +41,7 @@ use Rattle.sort.specs.Sort.{order}
 use Rattle.database_model.proofs.Numbers.{found_kept}
 use Rattle.engine.specs.Durable.{IsSound, disk_history, is_stopped}
 use Rattle.engine.specs.Continuing.{Continues}
-use Rattle.engine.specs.Performing.{DoesReading, MayPerform, PerformsReading, StaysAlike}
+use Rattle.engine.specs.Performing.{DoesReading, MayPerform, RunsReadingCommand, StaysAlike}
 use Rattle.engine.specs.TakingOut.{HasHome}
 use Rattle.engine.specs.View.{world, world_of}
 use Rattle.engine.specs.Walking.{AreIdsAsked, IsWholeOrder}
@@ -55,7 +55,7 @@ use Rattle.engine.proofs.Sound.{performs_tied}
 use Rattle.engine.proofs.WalkingLemmas.{left_by_list, left_of_home}
 
 -- A window of the texts of those that were found is that of what the query asks for.
-pub ids_asked : (q : Query) (enough : ℕ) (ds : List Pairs) (ids asked : List (Vec ℕ)) → Suffices q enough
+pub ids_asked : (q : Query) (enough : ℕ) (ds : List Pairs) (ids asked : List (Vec ℕ)) → FirstAreEnough q enough
     → texts_of ids ≡ map id_text_of (take enough (order q.sort (matching q.filter ds))) → length ids < 2 ^ 64 - 1 → asked ≡ window q.skip q.limit ids
     → texts_of asked ≡ map id_text_of (selection q ds)
 ids_asked q enough ds ids asked suffices told few is =
@@ -141,7 +141,7 @@ module _ {D : Type 0} (history : D → History) (old : Engine D) (h : IsSound hi
           (continues_further history old mid read
           (continues_still history old mid first.untouched.disk first.untouched.stopped first.untouched.version first.takes
           first.untouched.reads)
-          (continues_of history mid read then.on))
+          (continues_of history mid read then.extends))
           (continues_still history read new pins.untouched.disk pins.untouched.stopped pins.untouched.version pins.takes pins.untouched.reads)
 
       state_pinned : HasState history file old.told.value.start old.told.value.now
@@ -161,28 +161,28 @@ module _ {D : Type 0} (history : D → History) (old : Engine D) (h : IsSound hi
         cursors = subst (λ (t : Held). AreLawfulCursors (cursors_of t)) (sym none.same) h.cursors;
         before = h.before;
         quiet = h.quiet;
-        file = state_pinned none.pinned none.first none.goes;
-        unchanged = λ running rests. ap (λ (t : Bool × ℕ). t.0) (unchanged_pinned none.pinned none.first none.goes)
-            ∙ h.unchanged (sym (goes_pinned none.pinned none.first none.goes).running ∙ running) rests;
+        file = state_pinned none.pinned none.first none.continues;
+        unchanged = λ running clean. ap (λ (t : Bool × ℕ). t.0) (unchanged_pinned none.pinned none.first none.continues)
+            ∙ h.unchanged (sym (goes_pinned none.pinned none.first none.continues).running ∙ running) clean;
         tied = none.tied old.is_changed h.tied;
       };
-      goes = goes_pinned none.pinned none.first none.goes;
+      continues = goes_pinned none.pinned none.first none.continues;
       told = refl;
       cursors = none.same;
       changes = refl;
-      takes = ap (λ (t : Bool × ℕ). t.1) (unchanged_pinned none.pinned none.first none.goes);
+      takes = ap (λ (t : Bool × ℕ). t.1) (unchanged_pinned none.pinned none.first none.continues);
     }
 
     -- a refusal that memory ran out, or that no cursor may be opened, is as planned or has its cause
-    does : (r : Result Pairs Refusal) → OnErr r (held ≡ old.cursors)
+    as_planned : (r : Result Pairs Refusal) → OnErr r (held ≡ old.cursors)
         → MatchResult r (IsFirstGiven connection name gs most old.cursors held)
         (λ e. HasReadCause history old.file file e ⊎ IsNoBatch (table_of old.cursors) connection gs most e) → DoesReading history planned r old new
-    does (Ok reply) same given = given_so reply given
-    does (Err e) same (inl cause) =
+    as_planned (Ok reply) same given = given_so reply given
+    as_planned (Err e) same (inl cause) =
         (ap (λ (t : Held). world_of old.told.value (table_of t)) same, inr cause)
-    does (Err e) same (inr (inl memory)) =
+    as_planned (Err e) same (inr (inl memory)) =
         (ap (λ (t : Held). world_of old.told.value (table_of t)) same, inr (inl memory))
-    does (Err e) same (inr (inr many)) = (
+    as_planned (Err e) same (inr (inr many)) = (
       ap (λ (t : Held). world_of old.told.value (table_of t)) same,
       inl (sym (run_find-is w connection name q most gs refl)
           ∙ given_none w connection name gs most e (inr many) (λ memory. absurd (no (sym memory ∙ many.0)))),
@@ -197,14 +197,15 @@ module _ {D : Type 0} (history : D → History) (old : Engine D) (h : IsSound hi
 
     module _ (number : ℕ) (p : Projection) (way : Way) (left : KeepsWord (disk_history history old) → IsLeftOf history old.file number p way gs) where
       pub performs_first : (r : Result Pairs Refusal) → GivesFirst history connection name number p way gs most r old.file file old.cursors held
-          → (AreLawfulCursors (cursors_of old.cursors) → AreLawfulCursors (cursors_of held)) → PerformsReading history planned r old new
+          → (AreLawfulCursors (cursors_of old.cursors) → AreLawfulCursors (cursors_of held)) → RunsReadingCommand history planned r old new
       performs_first r gives lawful =
           let start = old.told.value.start in
           let now = old.told.value.now in
-          performs_tied history old new planned r h (goes_pinned gives.pinned gives.first gives.goes)
-          (state_pinned gives.pinned gives.first gives.goes) (unchanged_pinned gives.pinned gives.first gives.goes)
+          performs_tied history old new planned r h (goes_pinned gives.pinned gives.first gives.continues)
+          (state_pinned gives.pinned gives.first gives.continues) (unchanged_pinned gives.pinned gives.first gives.continues)
           (gives.tied left old.is_changed h.unchanged h.tied) refl refl (record { collections = h.lawful; cursors = lawful h.cursors })
-          (λ k. does r gives.err (gives.answers k (left ((goes_pinned gives.pinned gives.first gives.goes).reads.on.kept k)))) (same_world r gives.err)
+          (λ k. as_planned r gives.err (gives.answers k (left ((goes_pinned gives.pinned gives.first gives.continues).reads.extends.kept k))))
+          (same_world r gives.err)
 
       pub may_first : (r : Result (Option Pairs) Refusal)
           → OrNone (λ x. GivesFirst history connection name number p way gs most x old.file file old.cursors held)

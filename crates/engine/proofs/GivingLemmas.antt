@@ -9,7 +9,7 @@ use Rattle.database_model.specs.Cursors.{batch_of, first_batch}
 use Rattle.engine.specs.Durable.{disk_history}
 use Rattle.database_model.specs.Lawful.{IsLawful, IsWithin}
 use Rattle.engine.specs.Looking.{OnlyReads}
-use Rattle.engine.specs.Performing.{PerformsReading}
+use Rattle.engine.specs.Performing.{RunsReadingCommand}
 use Rattle.replies.specs.View.{with_ok, Runs}
 use Rattle.engine.specs.View.{world}
 use Rattle.database_model.specs.World.{World}
@@ -43,7 +43,7 @@ module _ {D : Type 0} (history : D → History) (old mid new : Engine D) (reads 
       → length name ≤ 255 → All IsWithin ds
       → Runs (world mid) (first_batch (world mid) connection name ds (batch_of most ds)) (world new) r
       → (KeepsWord (disk_history history mid) → first_batch (world old) connection name ds (batch_of most ds) ≡ planned)
-      → PerformsReading history planned r old new
+      → RunsReadingCommand history planned r old new
   gives_behind connection name ds most planned r short within runs same =
       let there : Result (World × Pairs) Refusal = first_batch (world mid) connection name ds (batch_of most ds) in
       let lawful : IsLawful (world new) =
@@ -56,7 +56,7 @@ module _ {D : Type 0} (history : D → History) (old mid new : Engine D) (reads 
 -- What was read was refused as planned, or memory ran out.
 pub refuses_planned : {D : Type 0} (history : D → History) (old new : Engine D) (planned : Result (World × Pairs) Refusal) (e : Refusal)
     → OnlyReads history old new → (KeepsWord (disk_history history new) → e ≢ refusals.OutOfMemory → planned ≡ Err e)
-    → PerformsReading history planned (Err e) old new
+    → RunsReadingCommand history planned (Err e) old new
 refuses_planned history old new planned refusals.OutOfMemory reads is = performs_memory history old new planned refusals.OutOfMemory refl reads
 refuses_planned history old new planned e reads is =
     performs_read history old new planned (Err e) reads (λ k. (world_same history old new reads, inl (is k (λ h. absurd cc))))

@@ -22,7 +22,7 @@ use Rattle.entries.proofs.PlaceLemmas.{found_name}
 use Rattle.engine.specs.Durable.{disk_history, IsRunning, IsSound}
 use Rattle.engine.specs.Indexing.{HasIndexed, Indexed, IsIndexed, IsIndexing, IsUnbegun, IsUnindexable, RefusesOne, TakesEach}
 use Rattle.engine.specs.Looking.{Looks, OnlyReads}
-use Rattle.engine.specs.Trying.{TriesOf}
+use Rattle.engine.specs.Trying.{MayRefuseOf}
 use Rattle.engine.specs.View.{world}
 use Rattle.database_model.specs.World.{documents_or_none}
 use Rattle.engine.specs.declared.engine.Engine.{Engine}
@@ -96,11 +96,11 @@ module _ {D : Type 0} (history : D → History) (old : Engine D) (h : IsSound hi
   Reading r = ReadsOf history (λ now rest. IsWalk now walk rest) (λ now rest batch. StepsOn 64 later now rest batch.items) r old.file file
 
   abbrev Steps : Result Bool Refusal → Type 0
-  Steps r = TriesOf history (IsIndexing walk made) (HasIndexed later after) IsUnindexable r old new
+  Steps r = MayRefuseOf history (IsIndexing walk made) (HasIndexed later after) IsUnindexable r old new
 
   pub batch_unread : (e : Refusal) → Reading (Err e) → Steps (Err e)
   batch_unread e read = record {
-    reads = reads_file history old file h read.on read.unchanged read.same;
+    reads = reads_file history old file h read.extends read.unchanged read.same;
     answers = λ k x is. inr (read.answers k old.told.value.start (world old).collections h.file x.rest is.walks);
   }
 
@@ -112,7 +112,7 @@ module _ {D : Type 0} (history : D → History) (old : Engine D) (h : IsSound hi
 
     pub batch_refused : (e : Refusal) → RefusesOne made batch.items e → Steps (Err e)
     batch_refused e refuses = record {
-      reads = reads_file history old file h read.on read.unchanged read.same;
+      reads = reads_file history old file h read.extends read.unchanged read.same;
       answers = λ k x is.
           let next = read.answers k old.told.value.start (world old).collections h.file x.rest is.walks in
           elim (refuses x.collection x.index x.done (drop (length batch.items) x.rest) is.kept (split x is next.0.first) is.has) [
@@ -123,7 +123,7 @@ module _ {D : Type 0} (history : D → History) (old : Engine D) (h : IsSound hi
 
     pub batch_taken : (more : Bool) → TakesEach made after batch.items → (more ≡ false → batch.items ≡ []) → Steps (Ok more)
     batch_taken more takes empty = record {
-      reads = reads_file history old file h read.on read.unchanged read.same;
+      reads = reads_file history old file h read.extends read.unchanged read.same;
       answers = λ k x is.
           let next = read.answers k old.told.value.start (world old).collections h.file x.rest is.walks in
           let n = length batch.items in
@@ -162,7 +162,7 @@ pub record HasEnteredTo {D : Type 0} (history : D → History) (name : List ℕ)
 
 module _ {D : Type 0} (history : D → History) (name : List ℕ) (before : NewEntries) (old : Engine D) where
   abbrev Enters : NewEntries → Result (Unit {0}) Refusal → Engine D → Type 0
-  Enters made r new = TriesOf history (IsUnbegun name before) (IsIndexed made) IsUnindexable r old new
+  Enters made r new = MayRefuseOf history (IsUnbegun name before) (IsIndexed made) IsUnindexable r old new
 
   module _ (mid : Engine D) where
     pub enters_unread : (e : Refusal) → Looks history (IsNumberOf name) (Err e) old mid → Enters before (Err e) mid
@@ -212,11 +212,11 @@ module _ {D : Type 0} (history : D → History) (name : List ℕ) (before : NewE
     }
       where
         runs : IsRunning mid
-        runs = stopped_same history old.file.pager mid.file.pager looks.reads.goes.stays ∙ running
+        runs = stopped_same history old.file.pager mid.file.pager looks.reads.continues.stays ∙ running
 
   module _ (mid new : Engine D) (made after : NewEntries) (walk later : Walk) (far : HasEnteredTo history name before made walk old mid) where
     abbrev Step : Result Bool Refusal → Type 0
-    Step r = TriesOf history (IsIndexing walk made) (HasIndexed later after) IsUnindexable r mid new
+    Step r = MayRefuseOf history (IsIndexing walk made) (HasIndexed later after) IsUnindexable r mid new
 
     same_now : (world mid).collections ≡ (world old).collections
     same_now = now_same history old mid far.reads
@@ -224,7 +224,7 @@ module _ {D : Type 0} (history : D → History) (name : List ℕ) (before : NewE
     entered_now : OnlyReads history mid new → KeepsWord (disk_history history new) → (x : Indexed) → IsUnbegun name before (world old).collections x
         → Entered walk made (world mid).collections x
     entered_now more k x is =
-        subst (λ (cs : List Collection). Entered walk made cs x) (sym same_now) (far.answers (word_before history mid.file new.file more.goes k) x is)
+        subst (λ (cs : List Collection). Entered walk made cs x) (sym same_now) (far.answers (word_before history mid.file new.file more.continues k) x is)
 
     pub entered_refused : (last : NewEntries) (e : Refusal) → Step (Err e) → Enters last (Err e) new
     entered_refused last e step = record {
@@ -233,14 +233,15 @@ module _ {D : Type 0} (history : D → History) (name : List ℕ) (before : NewE
           let l = entered_now step.reads k x is in
           elim (step.answers k (record x { done = l.done; rest = l.rest }) l.indexing) [
             | inl refused ↦ inl refused
-            | inr cause ↦ inr (cause_from history old.file mid.file new.file far.reads.goes (word_before history mid.file new.file step.reads.goes k) e cause)
+            | inr cause ↦ inr (cause_from history old.file mid.file new.file far.reads.continues
+                (word_before history mid.file new.file step.reads.continues k) e cause)
           ];
     }
 
     pub entered_on : Step (Ok true) → HasEnteredTo history name before after later old new
     entered_on step = record {
       reads = reads_on history old mid new far.reads step.reads;
-      running = stopped_same history mid.file.pager new.file.pager step.reads.goes.stays ∙ far.running;
+      running = stopped_same history mid.file.pager new.file.pager step.reads.continues.stays ∙ far.running;
       answers = λ k x is.
           let l = entered_now step.reads k x is in
           let has = step.answers k (record x { done = l.done; rest = l.rest }) l.indexing in

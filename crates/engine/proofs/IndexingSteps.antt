@@ -22,7 +22,7 @@ use Rattle.engine.specs.Durable.{disk_history, is_stopped, IsRunning, IsSound}
 use Rattle.engine.specs.Indexing.{HasDocumentsOf, Indexed, IsIndexed, IsUnbegun, IsUnindexable}
 use Rattle.engine.specs.Looking.{OnlyReads}
 use Rattle.engine.specs.Storing.{AreNoted, Notes}
-use Rattle.engine.specs.Trying.{TriesOf}
+use Rattle.engine.specs.Trying.{MayRefuseOf}
 use Rattle.engine.specs.View.{world}
 use Rattle.engine.specs.declared.engine.Engine.{Engine}
 use Rattle.engine.proofs.MakingLemmas.{lawful_now}
@@ -103,10 +103,10 @@ module _ {D : Type 0} (history : D → History) (old : Engine D) (h : IsSound hi
 
         module _ (made : NewEntries) (last : Engine D) where
           abbrev Takes : Result (Unit {0}) Refusal → Type 0
-          Takes r = TriesOf history (IsUnbegun name begun) (IsIndexed made) IsUnindexable r old last
+          Takes r = MayRefuseOf history (IsUnbegun name begun) (IsIndexed made) IsUnindexable r old last
 
           lawful_then : OnlyReads history old last → KeepsWord (disk_history history last) → states.IsLawfulState cs
-          lawful_then reads k = lawful_now history old h (word_before history old.file last.file reads.goes k) running
+          lawful_then reads k = lawful_now history old h (word_before history old.file last.file reads.continues k) running
 
           pub index_refused : (e : Refusal) → Takes (Err e) → NotesIt home before (Err e) last
           index_refused e takes = record {

@@ -25,10 +25,10 @@ use Rattle.database_model.specs.Insert.{inserted}
 use Rattle.engine.specs.Looking.{Looks, OnlyReads}
 use Rattle.engine.specs.Numbering.{IsNewNumber, IsTooMany}
 use Rattle.engine.specs.Storing.{AreNoted, HasNoted, IsAny, IsFull, MayEnter, Notes, entering}
-use Rattle.engine.specs.Trying.{Tries}
+use Rattle.engine.specs.Trying.{MayRefuse}
 use Rattle.engine.specs.View.{world}
 use Rattle.database_model.specs.World.{collection_of}
-use Rattle.engine.specs.Writing.{Makes, planned_or, Writes}
+use Rattle.engine.specs.Writing.{ChangesCollections, planned_or, Writes}
 use Rattle.engine.specs.declared.engine.Engine.{Engine}
 use Rattle.engine.proofs.EnteringSteps.{memory_or}
 use Rattle.engine.proofs.MakingLemmas.{lawful_now, leads_planned, makes_none, makes_written, planned_is}
@@ -67,7 +67,7 @@ none_numbered cs name is = by (find_collection cs name) refl is
 module _ {D : Type 0} (history : D → History) (name : List ℕ) (old mid : Engine D) where
   abbrev Targets : List Edit → Result Catalogued Refusal → Engine D → Type 0
   Targets edits r new =
-      Tries history (λ home. AreNoted (world old).collections name home edits (collection_of (world old).collections name))
+      MayRefuse history (λ home. AreNoted (world old).collections name home edits (collection_of (world old).collections name))
       (IsFull (world old).collections name) r old new
 
   pub target_there : (edits : List Edit) (home : Catalogued) → edits ≡ [] → Looks history (IsCatalogued name) (Ok (Some home)) old mid
@@ -88,7 +88,7 @@ module _ {D : Type 0} (history : D → History) (name : List ℕ) (old mid : Eng
     as_numbered = record { reads = first.reads; answers = λ k. none_numbered (world old).collections name (first.answers k) }
 
     abbrev NewNumber : Result ℕ Refusal → Type 0
-    NewNumber r = Tries history (IsNewNumber (world mid).collections) (IsTooMany (world mid).collections) r mid last
+    NewNumber r = MayRefuse history (IsNewNumber (world mid).collections) (IsTooMany (world mid).collections) r mid last
 
     pub target_refused : (edits : List Edit) (e : Refusal) → NewNumber (Err e) → Targets edits (Err e) last
     target_refused edits e second = record {
@@ -181,7 +181,7 @@ module _ {D : Type 0} (history : D → History) (name : List ℕ) (all : List Pa
     so_far : {first : Collection} → OnlyReads history mid new → KeepsWord (disk_history history new)
         → AreNoted (world old).collections name home_before before first
         → IsSoFar (world old).collections name home edits all (ps ∷ left) first
-    so_far {first} later k noted = far.answers (word_before history mid.file new.file later.goes k) first noted
+    so_far {first} later k noted = far.answers (word_before history mid.file new.file later.continues k) first noted
 
     noted_now : {first : Collection} (f : IsSoFar (world old).collections name home edits all (ps ∷ left) first)
         → AreNoted (world mid).collections name home edits f.reached
@@ -205,7 +205,8 @@ module _ {D : Type 0} (history : D → History) (name : List ℕ) (all : List Pa
           let f = so_far step.reads k noted in
           elim (step.answers k f.reached (noted_now f) tt) [
             | inl refused ↦ inl (so_far_refused (world old).collections name all first home edits ps left f e refused)
-            | inr cause ↦ inr (cause_from history old.file mid.file new.file far.reads.goes (word_before history mid.file new.file step.reads.goes k) e cause)
+            | inr cause ↦ inr (cause_from history old.file mid.file new.file far.reads.continues
+                (word_before history mid.file new.file step.reads.continues k) e cause)
           ];
     }
 
@@ -227,11 +228,11 @@ module _ {D : Type 0} (history : D → History) (name : List ℕ) (all : List Pa
   Plan cs = inserted cs name all
 
   abbrev Stores : Result (Unit {0}) Refusal → Engine D → Type 0
-  Stores r new = Makes history (Plan (world old).collections) r old new
+  Stores r new = ChangesCollections history (Plan (world old).collections) r old new
 
   abbrev Target_of : Result Catalogued Refusal → Type 0
   Target_of r =
-      Tries history (λ home. AreNoted (world old).collections name home before (collection_of (world old).collections name))
+      MayRefuse history (λ home. AreNoted (world old).collections name home before (collection_of (world old).collections name))
       (IsFull (world old).collections name) r old mid
 
   pub stores_untargeted : (e : Refusal) → Target_of (Err e) → Stores (Err e) mid
@@ -251,7 +252,7 @@ module _ {D : Type 0} (history : D → History) (name : List ℕ) (all : List Pa
         → AreNoted (world mid).collections name home before (collection_of (world mid).collections name)
     noted_first later k =
         subst (λ (cs : List Collection). AreNoted cs name home before (collection_of cs name)) (sym same_there)
-        (target.answers (word_before history mid.file last.file later.goes k))
+        (target.answers (word_before history mid.file last.file later.continues k))
 
     pub stores_refused : (e : Refusal) → Noted (Err e) → Stores (Err e) last
     stores_refused e notes = makes_none history (Plan (world old).collections) old last e (reads_on history old mid last target.reads notes.reads) (λ k.
@@ -260,7 +261,7 @@ module _ {D : Type 0} (history : D → History) (name : List ℕ) (all : List Pa
         elim (notes.answers k (collection_of cs name) noted tt) [
           | inl refused ↦ inl (ap Plan (sym same_there) ∙ inserted_there cs name all (Err e) noted.room refused)
           | inr cause ↦ inr
-              (cause_from history old.file mid.file last.file target.reads.goes (word_before history mid.file last.file notes.reads.goes k) e cause)
+              (cause_from history old.file mid.file last.file target.reads.continues (word_before history mid.file last.file notes.reads.continues k) e cause)
         ])
 
     module _ (notes : Noted (Ok tt)) where

@@ -24,7 +24,7 @@ use Rattle.database_model.specs.Cursors.{batch_of, batch_reply, cursor_reply, it
 use Rattle.database_model.specs.Lawful.{AreShortIndexes, IsShortIndex, IsWithin}
 use Rattle.database_model.specs.ListIndexes.{described, described_all, described_id, described_index, indexes_reply, run_list_indexes, unique_pairs}
 use Rattle.engine.specs.Looking.{Looks}
-use Rattle.engine.specs.Performing.{PerformsReading}
+use Rattle.engine.specs.Performing.{RunsReadingCommand}
 use Rattle.database_model.specs.Refusals.{int, ok_reply, words}
 use Rattle.replies.specs.View.{IsSendable, with_ok}
 use Rattle.engine.specs.View.{world}
@@ -178,7 +178,7 @@ module _ {D : Type 0} (history : D → History) (name : List ℕ) (old mid : Eng
   run = run_list_indexes (world old) (record { namespace = name })
 
   -- the collection is missing
-  pub list_missing : Looks history (IsCatalogueOf name) (Ok None) old mid → PerformsReading history run (Err refusals.NamespaceNotFound) old mid
+  pub list_missing : Looks history (IsCatalogueOf name) (Ok None) old mid → RunsReadingCommand history run (Err refusals.NamespaceNotFound) old mid
   list_missing first =
       performs_read history old mid run (Err refusals.NamespaceNotFound) first.reads
       (λ k. (
@@ -188,7 +188,7 @@ module _ {D : Type 0} (history : D → History) (name : List ℕ) (old mid : Eng
 
   -- it is there, and these are its indexes
   pub list_done : (home : Catalogued) → Looks history (IsCatalogueOf name) (Ok (Some home)) old mid → (d : Pairs)
-      → d ≡ ok_reply (indexes_reply name home.indexes.items) → PerformsReading history run (Ok d) old mid
+      → d ≡ ok_reply (indexes_reply name home.indexes.items) → RunsReadingCommand history run (Ok d) old mid
   list_done home first d said =
       performs_read history old mid run (Ok d) first.reads (λ k.
       let t = has_home (world old).collections name home (first.answers k) in

@@ -13,16 +13,16 @@ use Rattle.collections.specs.Calls.{HasReadCause, HasWriteCause, IsOfFile}
 use Rattle.collections.proofs.CauseLemmas.{any_cause, write_cause_from}
 use Rattle.collections.proofs.LawLemmas as laws
 use Rattle.engine.specs.Durable.{disk_history, file_of, IsRunning, IsSound}
-use Rattle.opening.specs.Known.{Known}
+use Rattle.opening.specs.TurnStates.{TurnStates}
 use Rattle.engine.specs.Looking.{OnlyReads}
-use Rattle.engine.specs.Performing.{Performs}
+use Rattle.engine.specs.Performing.{RunsCommand}
 use Rattle.cursors.specs.Held.{cursors_of}
 use Rattle.database_model.specs.Refusals.{ok_reply}
 use Rattle.database_model.specs.Step.{answered}
 use Rattle.replies.specs.View.{with_ok}
 use Rattle.engine.specs.View.{world}
 use Rattle.database_model.specs.World.{World}
-use Rattle.engine.specs.Writing.{FileCause, Makes, planned_or, Writes}
+use Rattle.engine.specs.Writing.{FileCause, ChangesCollections, planned_or, Writes}
 use Rattle.engine.specs.declared.engine.Engine.{Engine}
 use Rattle.engine.proofs.Continuing.{continues_itself, continues_of}
 use Rattle.engine.proofs.OnlyReading.{now_same, word_before}
@@ -53,13 +53,14 @@ module _ {D : Type 0} (history : D → History) where
 
   -- it was refused before anything was written
   pub makes_none : (planned : Result (List Collection) Refusal) (old new : Engine D) (e : Refusal) → OnlyReads history old new
-      → (KeepsWord (disk_history history new) → (planned ≡ Err e) ⊎ HasReadCause history (file_of old) (file_of new) e) → Makes history planned (Err e) old new
+      → (KeepsWord (disk_history history new) → (planned ≡ Err e) ⊎ HasReadCause history (file_of old) (file_of new) e)
+      → ChangesCollections history planned (Err e) old new
   makes_none planned old new e reads why = record {
     sound = reads.sound;
-    goes = reads.goes;
-    start = ap (λ (k : Known). k.start) reads.told;
+    continues = reads.continues;
+    start = ap (λ (k : TurnStates). k.start) reads.told;
     cursors = reads.cursors;
-    does = λ k. (now_same history old new reads, elim (why k) [ inl is ↦ inl is | inr cause ↦ inr (inl (any_cause history old.file new.file e cause)) ]);
+    as_planned = λ k. (now_same history old new reads, elim (why k) [ inl is ↦ inl is | inr cause ↦ inr (inl (any_cause history old.file new.file e cause)) ]);
     left = now_same history old new reads;
     refused = reads.changes;
     keeps = λ t. reads.changes ∙ t;
@@ -71,13 +72,13 @@ module _ {D : Type 0} (history : D → History) where
     after = planned_or (world mid).collections (plan (world mid).collections)
 
     pub makes_written : (r : Result (Unit {0}) Refusal) → (KeepsWord (disk_history history mid) → plan (world mid).collections ≡ Ok after)
-        → Writes history after r mid new → Makes history (plan (world old).collections) r old new
+        → Writes history after r mid new → ChangesCollections history (plan (world old).collections) r old new
     makes_written (Ok tt) plans w = record {
       sound = w.sound;
-      goes = laws.goes_further history old.file mid.file new.file reads.goes w.goes;
-      start = w.start ∙ ap (λ (k : Known). k.start) reads.told;
+      continues = laws.goes_further history old.file mid.file new.file reads.continues w.continues;
+      start = w.start ∙ ap (λ (k : TurnStates). k.start) reads.told;
       cursors = w.cursors ∙ reads.cursors;
-      does = λ k. ap plan (sym (now_same history old mid reads)) ∙ plans (word_before history mid.file new.file w.goes k)
+      as_planned = λ k. ap plan (sym (now_same history old mid reads)) ∙ plans (word_before history mid.file new.file w.continues k)
           ∙ ap (λ (cs : List Collection). Ok cs) (sym w.ok);
       left = tt;
       refused = tt;
@@ -85,12 +86,12 @@ module _ {D : Type 0} (history : D → History) where
     }
     makes_written (Err e) plans w = record {
       sound = w.sound;
-      goes = laws.goes_further history old.file mid.file new.file reads.goes w.goes;
-      start = w.start ∙ ap (λ (k : Known). k.start) reads.told;
+      continues = laws.goes_further history old.file mid.file new.file reads.continues w.continues;
+      start = w.start ∙ ap (λ (k : TurnStates). k.start) reads.told;
       cursors = w.cursors ∙ reads.cursors;
-      does = λ k. (
+      as_planned = λ k. (
         w.err.0 ∙ now_same history old mid reads,
-        inr (write_cause_from history old.file mid.file new.file reads.goes (word_before history mid.file new.file w.goes k)
+        inr (write_cause_from history old.file mid.file new.file reads.continues (word_before history mid.file new.file w.continues k)
             (planned_or (world old).collections (plan (world old).collections)) e
             (subst (λ (cs : List Collection). HasWriteCause history (planned_or cs (plan cs)) mid.file new.file e) (now_same history old mid reads)
             (w.cause k))),
@@ -102,31 +103,31 @@ module _ {D : Type 0} (history : D → History) where
 
   -- what was made behind reads
   module _ (plan : List Collection → Result (List Collection) Refusal) (old mid new : Engine D) (reads : OnlyReads history old mid) where
-    pub makes_behind : (r : Result (Unit {0}) Refusal) → Makes history (plan (world mid).collections) r mid new
-        → Makes history (plan (world old).collections) r old new
+    pub makes_behind : (r : Result (Unit {0}) Refusal) → ChangesCollections history (plan (world mid).collections) r mid new
+        → ChangesCollections history (plan (world old).collections) r old new
     makes_behind (Ok tt) m = record {
       sound = m.sound;
-      goes = laws.goes_further history old.file mid.file new.file reads.goes m.goes;
-      start = m.start ∙ ap (λ (k : Known). k.start) reads.told;
+      continues = laws.goes_further history old.file mid.file new.file reads.continues m.continues;
+      start = m.start ∙ ap (λ (k : TurnStates). k.start) reads.told;
       cursors = m.cursors ∙ reads.cursors;
-      does = λ k. ap plan (sym (now_same history old mid reads)) ∙ m.does k;
+      as_planned = λ k. ap plan (sym (now_same history old mid reads)) ∙ m.as_planned k;
       left = tt;
       refused = tt;
       keeps = λ t. m.keeps (reads.changes ∙ t);
     }
     makes_behind (Err e) m = record {
       sound = m.sound;
-      goes = laws.goes_further history old.file mid.file new.file reads.goes m.goes;
-      start = m.start ∙ ap (λ (k : Known). k.start) reads.told;
+      continues = laws.goes_further history old.file mid.file new.file reads.continues m.continues;
+      start = m.start ∙ ap (λ (k : TurnStates). k.start) reads.told;
       cursors = m.cursors ∙ reads.cursors;
-      does = λ k.
-          let d = m.does k in
+      as_planned = λ k.
+          let d = m.as_planned k in
           let same = now_same history old mid reads in (
             d.0 ∙ same,
             elim d.1 [
               | inl is ↦ inl (ap plan (sym same) ∙ is)
               | inr cause ↦ inr
-                  (write_cause_from history old.file mid.file new.file reads.goes (word_before history mid.file new.file m.goes k)
+                  (write_cause_from history old.file mid.file new.file reads.continues (word_before history mid.file new.file m.continues k)
                   (planned_or (world old).collections (plan (world old).collections)) e
                   (subst (λ (cs : List Collection). HasWriteCause history (planned_or cs (plan cs)) mid.file new.file e) same cause))
             ],
@@ -143,24 +144,24 @@ with_reply w reply planned = planned >>= (λ cs. Ok (record w { collections = cs
 module _ {D : Type 0} (history : D → History) (reply : Pairs) (planned : Result (List Collection) Refusal) (run : Result (World × Pairs) Refusal)
     (old new : Engine D) where
   -- there was no memory for the reply
-  pub performs_none : IsSound history old → Performs history run (Err refusals.OutOfMemory) old old
+  pub performs_none : IsSound history old → RunsCommand history run (Err refusals.OutOfMemory) old old
   performs_none h = record {
     sound = h;
-    goes = continues_itself history old;
+    continues = continues_itself history old;
     start = refl;
-    does = λ k. (refl, inr (inl refl, λ k. inl (inl refl)));
+    as_planned = λ k. (refl, inr (inl refl, λ k. inl (inl refl)));
     left = refl;
     refused = refl;
     keeps = λ t. t;
   }
 
   module _ (is : run ≡ with_reply (world old) reply planned) where
-    pub performs_done : (d : Pairs) → d ≡ ok_reply reply → Makes history planned (Ok tt) old new → Performs history run (Ok d) old new
+    pub performs_done : (d : Pairs) → d ≡ ok_reply reply → ChangesCollections history planned (Ok tt) old new → RunsCommand history run (Ok d) old new
     performs_done d said makes = record {
       sound = makes.sound;
-      goes = continues_of history old new makes.goes;
+      continues = continues_of history old new makes.continues;
       start = makes.start;
-      does = λ k. ap with_ok (is ∙ ap (with_reply (world old) reply) (makes.does k)) ∙ there;
+      as_planned = λ k. ap with_ok (is ∙ ap (with_reply (world old) reply) (makes.as_planned k)) ∙ there;
       left = tt;
       refused = tt;
       keeps = makes.keeps;
@@ -178,12 +179,12 @@ module _ {D : Type 0} (history : D → History) (reply : Pairs) (planned : Resul
     refused_so (Ok cs) = refl
     refused_so (Err e) = refl
 
-    pub performs_refused : (e : Refusal) → Makes history planned (Err e) old new → Performs history run (Err e) old new
+    pub performs_refused : (e : Refusal) → ChangesCollections history planned (Err e) old new → RunsCommand history run (Err e) old new
     performs_refused e makes = record {
       sound = makes.sound;
-      goes = continues_of history old new makes.goes;
+      continues = continues_of history old new makes.continues;
       start = makes.start;
-      does = λ k. let d = makes.does k in (same d.0, why d.1);
+      as_planned = λ k. let d = makes.as_planned k in (same d.0, why d.1);
       left = same makes.left;
       refused = makes.refused;
       keeps = makes.keeps;

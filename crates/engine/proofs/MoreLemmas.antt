@@ -18,7 +18,7 @@ use Rattle.database_model.specs.World.{Cursor, CursorTable, World}
 use Rattle.pinned_cursors.specs.Batches.{GivesNext, IsGivenNext}
 use Rattle.replies.specs.View.{with_ok}
 use Rattle.engine.specs.Durable.{IsSound}
-use Rattle.engine.specs.Performing.{DoesReading, PerformsReading}
+use Rattle.engine.specs.Performing.{DoesReading, RunsReadingCommand}
 use Rattle.engine.specs.View.{world, world_of}
 use Rattle.engine.specs.declared.engine.Engine.{Engine}
 use Rattle.engine.proofs.Continuing.{continues_further, continues_of, continues_still}
@@ -49,10 +49,10 @@ module _ {D : Type 0} (history : D → History) (old : Engine D) (h : IsSound hi
       ap with_ok (run_get_more-is (world old) connection c at place)
       ∙ (λ i. let r : Result (World × Pairs) Refusal = Ok (world_of old.told.value (sym left i), sym says i) in r)
 
-  does : (r : Result Pairs Refusal) → OnErr r (held ≡ old.cursors)
+  as_planned : (r : Result Pairs Refusal) → OnErr r (held ≡ old.cursors)
       → MatchResult r (IsGivenNext at c.namespace c.batch_size old.cursors held) (HasReadCause history old.file file) → DoesReading history planned r old new
-  does (Ok reply) same given = given_so reply given
-  does (Err e) same cause =
+  as_planned (Ok reply) same given = given_so reply given
+  as_planned (Err e) same cause =
       (ap (λ (t : Held). world_of old.told.value (table_of t)) same, inr cause)
 
   same_world : (r : Result Pairs Refusal) → OnErr r (held ≡ old.cursors) → OnErr r (world new ≡ world old)
@@ -60,13 +60,14 @@ module _ {D : Type 0} (history : D → History) (old : Engine D) (h : IsSound hi
   same_world (Err e) same = ap (λ (t : Held). world_of old.told.value (table_of t)) same
 
   pub performs_next : (r : Result Pairs Refusal) → GivesNext history at c.namespace c.batch_size r old.file file old.cursors held
-      → (AreLawfulCursors cs → AreLawfulCursors (cursors_of held)) → PerformsReading history planned r old new
+      → (AreLawfulCursors cs → AreLawfulCursors (cursors_of held)) → RunsReadingCommand history planned r old new
   performs_next r gives lawful =
-      let mid = read_then gives.goes.read in
-      let pins = gives.goes.pins in
+      let mid = read_then gives.continues.read in
+      let pins = gives.continues.pins in
       performs_tied history old new planned r h
-      (continues_further history old mid new (continues_of history old mid gives.goes.on)
+      (continues_further history old mid new (continues_of history old mid gives.continues.extends)
       (continues_still history mid new pins.untouched.disk pins.untouched.stopped pins.untouched.version pins.takes pins.untouched.reads))
-      (pins.state old.told.value.start old.told.value.now (gives.goes.same old.told.value.start old.told.value.now h.file))
-      ((λ i. (pins.unchanged i, pins.takes i)) ∙ gives.goes.unchanged) (gives.tied old.is_changed h.tied) refl refl
-      (record { collections = h.lawful; cursors = lawful h.cursors }) (λ k. does r gives.err (gives.answers k old.is_changed h.tied)) (same_world r gives.err)
+      (pins.state old.told.value.start old.told.value.now (gives.continues.same old.told.value.start old.told.value.now h.file))
+      ((λ i. (pins.unchanged i, pins.takes i)) ∙ gives.continues.unchanged) (gives.tied old.is_changed h.tied) refl refl
+      (record { collections = h.lawful; cursors = lawful h.cursors }) (λ k. as_planned r gives.err (gives.answers k old.is_changed h.tied))
+      (same_world r gives.err)

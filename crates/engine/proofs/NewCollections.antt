@@ -15,10 +15,10 @@ use Rattle.database_model.specs.Create.{created}
 use Rattle.engine.specs.Durable.{disk_history, file_of, IsRunning}
 use Rattle.engine.specs.Looking.{Looks, OnlyReads}
 use Rattle.engine.specs.Numbering.{IsNewNumber, IsTooMany}
-use Rattle.engine.specs.Trying.{Tries}
+use Rattle.engine.specs.Trying.{MayRefuse}
 use Rattle.engine.specs.View.{world}
 use Rattle.database_model.specs.World.{indexes_or_none, number_or, unused, with_documents}
-use Rattle.engine.specs.Writing.{Makes, planned_or, Writes}
+use Rattle.engine.specs.Writing.{ChangesCollections, planned_or, Writes}
 use Rattle.engine.specs.declared.engine.Engine.{Engine}
 use Rattle.engine.proofs.MakingLemmas.{lawful_now, leads_planned, makes_none, makes_written, planned_is}
 use Rattle.database_model.proofs.Numbers.{unused_unused}
@@ -60,29 +60,30 @@ module _ {D : Type 0} (history : D → History) (name : List ℕ) (old mid : Eng
     pub found_there : KeepsWord (disk_history history mid) → IsThere (world old).collections name n
     found_there k = there_of (world old).collections name n (first.answers k)
 
-    pub exists_there : Makes history (created (world old).collections name) (Err refusals.NamespaceExists) old mid
+    pub exists_there : ChangesCollections history (created (world old).collections name) (Err refusals.NamespaceExists) old mid
     exists_there =
         makes_none history (created (world old).collections name) old mid refusals.NamespaceExists first.reads
         (λ k. let t = found_there k in inl (created_there (world old).collections name t.collection t.found))
 
   pub exists_some : (found : Option ℕ) → is_some found ≡ true → Looks history (IsNumberOf name) (Ok found) old mid
-      → Makes history (created (world old).collections name) (Err refusals.NamespaceExists) old mid
+      → ChangesCollections history (created (world old).collections name) (Err refusals.NamespaceExists) old mid
   exists_some None e first = absurd cc
   exists_some (Some n) e first = exists_there n first
 
-  pub created_unread : (e : Refusal) → Looks history (IsNumberOf name) (Err e) old mid → Makes history (created (world old).collections name) (Err e) old mid
+  pub created_unread : (e : Refusal) → Looks history (IsNumberOf name) (Err e) old mid → ChangesCollections history (created (world old).collections name)
+      (Err e) old mid
   created_unread e first = makes_none history (created (world old).collections name) old mid e first.reads (λ k. inr (first.answers k))
 
   module _ (first : Looks history (IsNumberOf name) (Ok None) old mid) (last : Engine D) where
     abbrev NewTries : Result ℕ Refusal → Type 0
-    NewTries r = Tries history (IsNewNumber (world mid).collections) (IsTooMany (world mid).collections) r mid last
+    NewTries r = MayRefuse history (IsNewNumber (world mid).collections) (IsTooMany (world mid).collections) r mid last
 
     -- the collections of the last moment are those of the first
     all_same : OnlyReads history mid last → (world last).collections ≡ (world old).collections
     all_same later = now_same history mid last later ∙ now_same history old mid first.reads
 
     is_missing : OnlyReads history mid last → KeepsWord (disk_history history last) → find_collection (world old).collections name ≡ None
-    is_missing later k = none_of (world old).collections name (first.answers (word_before history mid.file last.file later.goes k))
+    is_missing later k = none_of (world old).collections name (first.answers (word_before history mid.file last.file later.continues k))
 
     pub new_for : (n : ℕ) → NewTries (Ok n) → KeepsWord (disk_history history last) → IsNewFor (world old).collections name n
     new_for n second k =
@@ -94,10 +95,11 @@ module _ {D : Type 0} (history : D → History) (name : List ℕ) (old mid : Eng
         → ((find_collection (world old).collections name ≡ None) × IsTooMany (world old).collections e) ⊎ HasReadCause history (file_of old) (file_of last) e
     not_new e second k = elim (second.answers k) [
       | inl many ↦ inl (is_missing second.reads k, subst (λ (cs : List Collection). IsTooMany cs e) (now_same history old mid first.reads) many)
-      | inr cause ↦ inr (cause_from history old.file mid.file last.file first.reads.goes (word_before history mid.file last.file second.reads.goes k) e cause)
+      | inr cause ↦ inr (cause_from history old.file mid.file last.file first.reads.continues
+          (word_before history mid.file last.file second.reads.continues k) e cause)
     ]
 
-    pub created_refused : (e : Refusal) → NewTries (Err e) → Makes history (created (world old).collections name) (Err e) old last
+    pub created_refused : (e : Refusal) → NewTries (Err e) → ChangesCollections history (created (world old).collections name) (Err e) old last
     created_refused e second =
         makes_none history (created (world old).collections name) old last e (reads_on history old mid last first.reads second.reads)
         (λ k. elim (not_new e second k) [
@@ -130,7 +132,7 @@ module _ {D : Type 0} (history : D → History) (name : List ℕ) (old mid : Eng
   no_number (Some n) e first = absurd cc
 
   module _ (first : Looks history (IsNumberOf name) (Ok None) old mid) (last : Engine D) (n : ℕ)
-      (second : Tries history (IsNewNumber (world mid).collections) (IsTooMany (world mid).collections) (Ok n) mid last) where
+      (second : MayRefuse history (IsNewNumber (world mid).collections) (IsTooMany (world mid).collections) (Ok n) mid last) where
     new_last : KeepsWord (disk_history history last) → IsNewFor (world last).collections name n
     new_last k =
         subst (λ (cs : List Collection). IsNewFor cs name n) (sym (now_same history mid last second.reads ∙ now_same history old mid first.reads))
@@ -144,7 +146,7 @@ module _ {D : Type 0} (history : D → History) (name : List ℕ) (old mid : Eng
 
     pub made_written : (r : Result (Unit {0}) Refusal) (new : Engine D)
         → Writes history (planned_or (world last).collections (created (world last).collections name)) r last new
-        → Makes history (created (world old).collections name) r old new
+        → ChangesCollections history (created (world old).collections name) r old new
     made_written r new writes =
         makes_written history (λ cs. created cs name) old last new (reads_on history old mid last first.reads second.reads) r
         (λ k. planned_is (world last).collections (put_collection (empty_collection name n) (world last).collections) (created (world last).collections name)

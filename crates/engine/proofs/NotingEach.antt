@@ -60,7 +60,7 @@ module _ {D X : Type 0} (history : D → History) (plan : Plan X) (name : List �
     so_far : OnlyReads history mid new → KeepsWord (disk_history history new) → (first : Collection)
         → AreNoted (world old).collections name home_before before first → plan.Is (world old).collections first
         → IsReached plan (world old).collections name home edits all (x ∷ left) first
-    so_far later k first noted so = far.answers (word_before history mid.file new.file later.goes k) first noted so
+    so_far later k first noted so = far.answers (word_before history mid.file new.file later.continues k) first noted so
 
     noted_now : (first : Collection) (f : IsReached plan (world old).collections name home edits all (x ∷ left) first)
         → AreNoted (world mid).collections name home edits f.reached × plan.Is (world mid).collections f.reached
@@ -91,7 +91,8 @@ module _ {D X : Type 0} (history : D → History) (plan : Plan X) (name : List �
           let now = noted_now first f in
           elim (step.answers k f.reached now.0 now.1) [
             | inl refused ↦ inl (f.same ∙ plan.more f.reached x left ∙ ap (λ (r : Result Collection Refusal). r >>= (λ next. plan.all next left)) refused)
-            | inr cause ↦ inr (cause_from history old.file mid.file new.file far.reads.goes (word_before history mid.file new.file step.reads.goes k) e cause)
+            | inr cause ↦ inr (cause_from history old.file mid.file new.file far.reads.continues
+                (word_before history mid.file new.file step.reads.continues k) e cause)
           ];
     }
 

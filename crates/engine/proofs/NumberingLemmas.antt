@@ -15,7 +15,7 @@ use Rattle.collections.specs.State.{State}
 use Rattle.collections.specs.declared.lookups.Name.{Name}
 use Rattle.engine.specs.Durable.{disk_history, IsSound}
 use Rattle.engine.specs.Numbering.{AreMarked, IsNewNumber, IsTooMany, numbered}
-use Rattle.engine.specs.Trying.{Tries}
+use Rattle.engine.specs.Trying.{MayRefuse}
 use Rattle.engine.specs.View.{world}
 use Rattle.database_model.specs.World.{unused, unused_from}
 use Rattle.engine.specs.declared.engine.Engine.{Engine}
@@ -125,11 +125,11 @@ module _ {D : Type 0} (history : D → History) (old : Engine D) (file : State D
   Finds r = Reads history (λ cs names. map name_of names.items ≡ map name_in cs) r old.file file
 
   abbrev TriesSo : Result ℕ Refusal → Type 0
-  TriesSo r = Tries history (IsNewNumber now) (IsTooMany now) r old new
+  TriesSo r = MayRefuse history (IsNewNumber now) (IsTooMany now) r old new
 
   pub number_unread : (e : Refusal) → Finds (Err e) → TriesSo (Err e)
   number_unread e r = record {
-    reads = reads_file history old file h r.on r.unchanged r.same;
+    reads = reads_file history old file h r.extends r.unchanged r.same;
     answers = λ k. inr (r.answers k old.told.value.start now h.file);
   }
 
@@ -139,15 +139,15 @@ module _ {D : Type 0} (history : D → History) (old : Engine D) (file : State D
 
     pub number_many : 1000 ≤ length names.items → TriesSo (Err refusals.TooMany)
     number_many many = record {
-      reads = reads_file history old file h r.on r.unchanged r.same;
+      reads = reads_file history old file h r.extends r.unchanged r.same;
       answers = λ k. inl (refl, omega (arith, many, length_same names.items now (are k)));
     }
 
     pub number_without_memory : TriesSo (Err refusals.OutOfMemory)
-    number_without_memory = record { reads = reads_file history old file h r.on r.unchanged r.same; answers = λ k. inr (inl refl) }
+    number_without_memory = record { reads = reads_file history old file h r.extends r.unchanged r.same; answers = λ k. inr (inl refl) }
 
     pub number_found : (n : ℕ) → length names.items < 1000 → n ≡ unused (numbered names.items) → TriesSo (Ok n)
     number_found n few is = record {
-      reads = reads_file history old file h r.on r.unchanged r.same;
+      reads = reads_file history old file h r.extends r.unchanged r.same;
       answers = λ k. (omega (arith, few, length_same names.items now (are k)), is ∙ unused_same names.items now (are k));
     }

@@ -4,7 +4,7 @@ use Rattle.std.specs.Prelude.{MatchResult}
 use Rattle.page.specs.History.{History, KeepsWord}
 use Rattle.path.specs.declared.refusal.Refusal.{Refusal}
 use Rattle.entries.specs.State.{Collection}
-use Rattle.collections.specs.Calls.{GoesFrom, HasFailed, HasReadCause, IsUnchanged}
+use Rattle.collections.specs.Calls.{ExtendsTurn, HasFailed, HasReadCause, IsUnchanged}
 use Rattle.collections.specs.Standing.{HasState}
 use Rattle.collections.specs.State.{State}
 use Rattle.collections.specs.View as views
@@ -12,12 +12,12 @@ use Rattle.collections.proofs.CauseLemmas.{any_cause}
 use Rattle.collections.proofs.LawLemmas as laws
 use Rattle.collections.proofs.StandingLemmas.{stopped_same}
 use Rattle.engine.specs.Durable.{disk_history, file_of, IsSound}
-use Rattle.opening.specs.Known.{Known}
+use Rattle.opening.specs.TurnStates.{TurnStates}
 use Rattle.cursors.specs.Held.{table_of}
 use Rattle.pinned_cursors.proofs.TurnTied.{tied_on}
 use Rattle.engine.specs.Looking.{LeavesAll, OnlyReads}
 use Rattle.engine.specs.Performing.{DoesPlanned, DoesReading}
-use Rattle.engine.specs.Trying.{Tries}
+use Rattle.engine.specs.Trying.{MayRefuse}
 use Rattle.engine.specs.View.{world, world_of}
 use Rattle.engine.specs.declared.engine.Engine.{Engine}
 use Rattle.bson.specs.Tree.{Pairs}
@@ -29,24 +29,24 @@ module _ {D : Type 0} (history : D → History) where
 
   -- nothing was
   pub reads_none : (old : Engine D) → IsSound history old → OnlyReads history old old
-  reads_none old h = record { sound = h; goes = laws.goes_from_itself history old.file; told = refl; cursors = refl; changes = refl; takes = refl }
+  reads_none old h = record { sound = h; continues = laws.goes_from_itself history old.file; told = refl; cursors = refl; changes = refl; takes = refl }
 
   -- the file went on with the same collections
-  pub leaves_file : (old : Engine D) (file : State D) → IsSound history old → GoesFrom history old.file file
+  pub leaves_file : (old : Engine D) (file : State D) → IsSound history old → ExtendsTurn history old.file file
       → views.is_changed file ≡ views.is_changed old.file → ((start now : List Collection) → HasState history old.file start now → HasState history file
       start now)
       → LeavesAll history old (record old { file = file })
-  leaves_file old file h goes unchanged same = record {
+  leaves_file old file h continues unchanged same = record {
     sound = record {
       lawful = h.lawful;
       cursors = h.cursors;
       before = h.before;
       quiet = h.quiet;
       file = same old.told.value.start old.told.value.now h.file;
-      unchanged = λ running rests. unchanged ∙ h.unchanged (sym (stopped_same history old.file.pager file.pager goes.stays) ∙ running) rests;
-      tied = tied_on history old.file file old.cursors.list old.is_changed goes h.tied;
+      unchanged = λ running clean. unchanged ∙ h.unchanged (sym (stopped_same history old.file.pager file.pager continues.stays) ∙ running) clean;
+      tied = tied_on history old.file file old.cursors.list old.is_changed continues h.tied;
     };
-    goes = goes;
+    continues = continues;
     told = refl;
     cursors = refl;
     changes = refl;
@@ -55,7 +55,7 @@ module _ {D : Type 0} (history : D → History) where
   pub leaves_on : (a b c : Engine D) → LeavesAll history a b → LeavesAll history b c → LeavesAll history a c
   leaves_on a b c first later = record {
     sound = later.sound;
-    goes = laws.goes_further history a.file b.file c.file first.goes later.goes;
+    continues = laws.goes_further history a.file b.file c.file first.continues later.continues;
     told = later.told ∙ first.told;
     cursors = later.cursors ∙ first.cursors;
     changes = later.changes ∙ first.changes;
@@ -66,17 +66,17 @@ module _ {D : Type 0} (history : D → History) where
 
   pub leaves_all : (old new : Engine D) → OnlyReads history old new → LeavesAll history old new
   leaves_all old new reads =
-      record { sound = reads.sound; goes = reads.goes; told = reads.told; cursors = reads.cursors; changes = reads.changes }
+      record { sound = reads.sound; continues = reads.continues; told = reads.told; cursors = reads.cursors; changes = reads.changes }
 
   -- it was read
-  pub reads_file : (old : Engine D) (file : State D) → IsSound history old → GoesFrom history old.file file → IsUnchanged history old.file file
+  pub reads_file : (old : Engine D) (file : State D) → IsSound history old → ExtendsTurn history old.file file → IsUnchanged history old.file file
       → ((start now : List Collection) → HasState history old.file start now → HasState history file start now)
       → OnlyReads history old (record old { file = file })
-  reads_file old file h goes unchanged same =
-      let leaves = leaves_file old file h goes (ap (λ (t : Bool × ℕ). t.0) unchanged) same in
+  reads_file old file h continues unchanged same =
+      let leaves = leaves_file old file h continues (ap (λ (t : Bool × ℕ). t.0) unchanged) same in
       record {
         sound = leaves.sound;
-        goes = goes;
+        continues = continues;
         told = refl;
         cursors = refl;
         changes = refl;
@@ -86,7 +86,7 @@ module _ {D : Type 0} (history : D → History) where
   pub reads_on : (a b c : Engine D) → OnlyReads history a b → OnlyReads history b c → OnlyReads history a c
   reads_on a b c first later = record {
     sound = later.sound;
-    goes = laws.goes_further history a.file b.file c.file first.goes later.goes;
+    continues = laws.goes_further history a.file b.file c.file first.continues later.continues;
     told = later.told ∙ first.told;
     cursors = later.cursors ∙ first.cursors;
     changes = later.changes ∙ first.changes;
@@ -95,18 +95,18 @@ module _ {D : Type 0} (history : D → History) where
 
   -- the collections are those of before
   pub now_same : (a b : Engine D) → OnlyReads history a b → (world b).collections ≡ (world a).collections
-  now_same a b reads = ap (λ (k : Known). k.now) reads.told
+  now_same a b reads = ap (λ (k : TurnStates). k.now) reads.told
 
   -- ---- causes between two moments are causes between earlier and later ones
 
   -- the disk kept its word before
-  pub word_before : (a b : State D) → GoesFrom history a b → KeepsWord (views.disk_history history b) → KeepsWord (views.disk_history history a)
-  word_before a b goes k = (goes.frame k).word
+  pub word_before : (a b : State D) → ExtendsTurn history a b → KeepsWord (views.disk_history history b) → KeepsWord (views.disk_history history a)
+  word_before a b continues k = (continues.frame k).word
 
-  module _ (a b c : State D) (goes : GoesFrom history a b) (k : KeepsWord (views.disk_history history b)) where
+  module _ (a b c : State D) (continues : ExtendsTurn history a b) (k : KeepsWord (views.disk_history history b)) where
     pub failed_from : HasFailed history b c → HasFailed history a c
-    failed_from (inl stopped) = inl (sym (stopped_same history a.pager b.pager goes.stays) ∙ stopped)
-    failed_from (inr more) = inr (omega (arith, more, (goes.frame k).failures))
+    failed_from (inl stopped) = inl (sym (stopped_same history a.pager b.pager continues.stays) ∙ stopped)
+    failed_from (inr more) = inr (omega (arith, more, (continues.frame k).failures))
 
     pub cause_from : (e : Refusal) → HasReadCause history b c e → HasReadCause history a c e
     cause_from e (inl memory) = inl memory
@@ -115,7 +115,7 @@ module _ {D : Type 0} (history : D → History) where
   -- ---- what was tried after reads
 
   module _ {X : Type 0} (IsRight : X → Type 0) (IsRefused : Refusal → Type 0) (a b c : Engine D) (first : OnlyReads history a b) where
-    pub tries_on : (r : Result X Refusal) → Tries history IsRight IsRefused r b c → Tries history IsRight IsRefused r a c
+    pub tries_on : (r : Result X Refusal) → MayRefuse history IsRight IsRefused r b c → MayRefuse history IsRight IsRefused r a c
     tries_on r later = record { reads = reads_on a b c first later.reads; answers = answered r later.answers }
       where
         answered : (x : Result X Refusal)
@@ -124,14 +124,15 @@ module _ {D : Type 0} (history : D → History) where
         answered (Ok x) right k = right k
         answered (Err e) right k = elim (right k) [
           | inl refused ↦ inl refused
-          | inr cause ↦ inr (cause_from (file_of a) (file_of b) (file_of c) first.goes (word_before (file_of b) (file_of c) later.reads.goes k) e cause)
+          | inr cause ↦ inr (cause_from (file_of a) (file_of b) (file_of c) first.continues (word_before (file_of b) (file_of c) later.reads.continues k) e
+              cause)
         ]
 
   -- ---- what a command does that only reads is what any does
 
   pub does_any : (old new : Engine D) (planned : Result (World × Pairs) Refusal) (r : Result Pairs Refusal) → DoesReading history planned r old new
       → DoesPlanned history planned r old new
-  does_any old new planned (Ok reply) does = does
+  does_any old new planned (Ok reply) as_planned = as_planned
   does_any old new planned (Err e) (same, inl is) = (same, inl is)
   does_any old new planned (Err e) (same, inr cause) =
       (same, inr (of_file history old.file new.file e cause, λ k. inl (any_cause history old.file new.file e cause)))

@@ -22,7 +22,7 @@ use Rattle.statements.specs.WriteLaws.{AreRun, AreThere}
 use Rattle.statements.specs.declared.statements.Ran.{Ran}
 use Rattle.statements.specs.declared.statements.Run.{Run}
 use Rattle.statements.specs.declared.statements.Tally.{Tally}
-use Rattle.engine.specs.declared.updates.Meant.{Meant}
+use Rattle.engine.specs.declared.updates.Candidates.{Candidates}
 use Rattle.statements.proofs.KeptLemmas.{stored_at}
 use Rattle.statements.proofs.ListedUpdates.{each_full, each_in, each_missing, each_there}
 use Rattle.statements.proofs.MeantDeletions.{or_first, or_second}
@@ -42,13 +42,13 @@ ok_once : {X : Type 0} (x y : X) (r : Result X Refusal) → r ≡ Ok x → r ≡
 ok_once x y r first second = cc
 
 -- What the statements come to, of all the collections.
-pub record Comes (now : List Collection) (name : List ℕ) (ss : List UpdateStatement) (m : Meant) (r : Run) : Type 0 where
+pub record Comes (now : List Collection) (name : List ℕ) (ss : List UpdateStatement) (m : Candidates) (r : Run) : Type 0 where
   pub after : Updated
   pub is : run_statements name 0 ss (not_updated now) ≡ Ok after
   pub says : update_reply after ≡ counts_reply r.tally.matched r.tally.modified r.tally.upserted
   pub quiet : after.modified ≡ 0 → after.upserted ≡ no_items → HasNone r.tally
 
-module _ (now : List Collection) (name : List ℕ) (ss : List UpdateStatement) (m : Meant) (h : IsLawfulState now)
+module _ (now : List Collection) (name : List ℕ) (ss : List UpdateStatement) (m : Candidates) (h : IsLawfulState now)
     (read : All (λ (s : UpdateStatement). IsRead s.change) ss) where
   abbrev planned : Result Updated Refusal
   planned = run_statements name 0 ss (not_updated now)
@@ -180,7 +180,7 @@ module _ (now : List Collection) (name : List ℕ) (ss : List UpdateStatement) (
 
 -- ---- what is written, and what it comes to
 
-module _ (ss : List UpdateStatement) (m : Meant) (read : All (λ (s : UpdateStatement). IsRead s.change) ss) (now : List Collection) (name : List ℕ)
+module _ (ss : List UpdateStatement) (m : Candidates) (read : All (λ (s : UpdateStatement). IsRead s.change) ss) (now : List Collection) (name : List ℕ)
     (h : IsLawfulState now) (meant : IsMeant now name ss m) (x : Ran) (ran : IsRan true ss m.documents.items x) where
   abbrev all_of_name : List Pairs
   all_of_name = documents_of now name

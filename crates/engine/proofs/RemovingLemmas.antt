@@ -22,14 +22,14 @@ use Rattle.entries.proofs.StateEditLaws.{put_same}
 use Rattle.database_model.specs.Delete.{after_deletion, after_deletions, deleted_in, run_delete}
 use Rattle.engine.specs.Durable.{disk_history, file_of, IsSound}
 use Rattle.engine.specs.Looking.{Looks, OnlyReads}
-use Rattle.engine.specs.Performing.{Performs}
+use Rattle.engine.specs.Performing.{RunsCommand}
 use Rattle.statements.specs.Redoing.{without_each, taken, all_taken}
 use Rattle.database_model.specs.Refusals.{total, ok_reply}
 use Rattle.engine.specs.Removing.{IsTaken, deleted}
 use Rattle.engine.specs.TakingOut.{AreThere, IsIndexable, TakesOut}
 use Rattle.engine.specs.View.{world}
 use Rattle.database_model.specs.World.{World, documents_or_none, documents_of}
-use Rattle.engine.specs.Writing.{Makes, Writes}
+use Rattle.engine.specs.Writing.{ChangesCollections, Writes}
 use Rattle.engine.specs.declared.delete.Taken.{Taken}
 use Rattle.engine.specs.declared.engine.Engine.{Engine}
 use Rattle.engine.proofs.Continuing.{continues_of}
@@ -145,14 +145,15 @@ module _ {D : Type 0} (history : D → History) where
       → OnlyReads history a b → Looks history P (Err e) b c → Looks history Q (Err e) a c
   refused_later P Q a b c e first looks = record {
     reads = reads_on history a b c first looks.reads;
-    answers = λ k. cause_from history (file_of a) (file_of b) (file_of c) first.goes (word_before history (file_of b) (file_of c) looks.reads.goes k) e
+    answers = λ k. cause_from history (file_of a) (file_of b) (file_of c) first.continues
+        (word_before history (file_of b) (file_of c) looks.reads.continues k) e
         (looks.answers k);
   }
 
   -- the device stopped before
   pub remove_stopped : (planned : Result (List Collection) Refusal) (old : Engine D) → IsSound history old
       → (KeepsWord (disk_history history old) → HasReadCause history (file_of old) (file_of old) refusals.StorageFailed)
-      → Makes history planned (Err refusals.StorageFailed) old old
+      → ChangesCollections history planned (Err refusals.StorageFailed) old old
   remove_stopped planned old h cause = makes_none history planned old old refusals.StorageFailed (reads_none history old h) (λ k. inr (cause k))
 
   module _ (name : List ℕ) (deletions : List Deletion) (old : Engine D) where
@@ -161,13 +162,13 @@ module _ {D : Type 0} (history : D → History) where
 
     -- nothing is taken, and nothing written
     pub removes_nothing : (t : Taken) → IsSound history old → (KeepsWord (disk_history history old) → IsTaken (world old).collections name deletions t)
-        → t.removed.items ≡ [] → Makes history (planned old) (Ok tt) old old
+        → t.removed.items ≡ [] → ChangesCollections history (planned old) (Ok tt) old old
     removes_nothing t h is none = record {
       sound = h;
-      goes = laws.goes_from_itself history old.file;
+      continues = laws.goes_from_itself history old.file;
       start = refl;
       cursors = refl;
-      does = λ k. ap (λ (cs : List Collection). Ok cs) (none_deleted (world old).collections name deletions t (is k) h.lawful.apart none);
+      as_planned = λ k. ap (λ (cs : List Collection). Ok cs) (none_deleted (world old).collections name deletions t (is k) h.lawful.apart none);
       left = tt;
       refused = tt;
       keeps = λ t. t;
@@ -175,7 +176,7 @@ module _ {D : Type 0} (history : D → History) where
 
     -- what is taken was written
     pub removes_written : (new : Engine D) (r : Result (Unit {0}) Refusal) → IsSound history old
-        → Writes history (deleted (world old).collections name deletions) r old new → Makes history (planned old) r old new
+        → Writes history (deleted (world old).collections name deletions) r old new → ChangesCollections history (planned old) r old new
     removes_written new r h w = makes_written history (λ cs. Ok (deleted cs name deletions)) old old new (reads_none history old h) r (λ k. refl) w
 
     abbrev run : World → Result (World × Pairs) Refusal
@@ -188,19 +189,20 @@ module _ {D : Type 0} (history : D → History) where
     unfolding run_delete
     runs = refl
 
-    pub delete_refused : (new : Engine D) (e : Refusal) → Makes history (planned old) (Err e) old new → Performs history (run (world old)) (Err e) old new
+    pub delete_refused : (new : Engine D) (e : Refusal) → ChangesCollections history (planned old) (Err e) old new
+        → RunsCommand history (run (world old)) (Err e) old new
     delete_refused new e m = performs_refused history (pair (codes "n") (total count) no_pairs) (planned old) (run (world old)) old new runs e m
 
     -- the reply was made of what was taken
     pub delete_done : (new : Engine D) (n : ℕ) (d : Pairs) → d ≡ ok_reply (pair (codes "n") (total n) no_pairs)
-        → (KeepsWord (disk_history history new) → n ≡ count) → Makes history (planned old) (Ok tt) old new
-        → Performs history (run (world old)) (Ok d) old new
+        → (KeepsWord (disk_history history new) → n ≡ count) → ChangesCollections history (planned old) (Ok tt) old new
+        → RunsCommand history (run (world old)) (Ok d) old new
     delete_done new n d said many m = record {
       sound = m.sound;
-      goes = continues_of history old new m.goes;
+      continues = continues_of history old new m.continues;
       start = m.start;
-      does = λ k. (performs_done history (pair (codes "n") (total count) no_pairs) (planned old) (run (world old)) old new runs d
-          (said ∙ ap (λ (x : ℕ). ok_reply (pair (codes "n") (total x) no_pairs)) (many k)) m).does k;
+      as_planned = λ k. (performs_done history (pair (codes "n") (total count) no_pairs) (planned old) (run (world old)) old new runs d
+          (said ∙ ap (λ (x : ℕ). ok_reply (pair (codes "n") (total x) no_pairs)) (many k)) m).as_planned k;
       left = tt;
       refused = tt;
       keeps = m.keeps;

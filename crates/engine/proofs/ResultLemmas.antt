@@ -9,4 +9,4 @@ fault_of (Ok x) = faults.Full
 fault_of (Err e) = e
 
 pub not_both : {X : Type 0} (b : Bool) → b ≡ true → b ≡ false → X
-not_both b on off = let both : true ≡ false = sym on ∙ off in absurd cc
+not_both b extends off = let both : true ≡ false = sym extends ∙ off in absurd cc

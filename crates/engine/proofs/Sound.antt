@@ -17,10 +17,10 @@ use Rattle.engine.specs.View.{world, turn_start}
 use Rattle.engine.specs.Durable.{IsRunning, IsSound, disk_history, file_of, has_changes}
 use Rattle.engine.specs.Writing.{FileCause}
 use Rattle.engine.specs.declared.engine.Engine.{Engine}
-use Rattle.opening.specs.declared.told.Told.{Told}
+use Rattle.opening.specs.declared.ghost_state.GhostState.{GhostState}
 use Rattle.database_model.specs.Refusals.{refusal_reply}
-use Rattle.engine.specs.Performing.{DoesPlanned, DoesReading, PerformsReading}
-use Rattle.opening.specs.Known.{Known}
+use Rattle.engine.specs.Performing.{DoesPlanned, DoesReading, RunsReadingCommand}
+use Rattle.opening.specs.TurnStates.{TurnStates}
 use Rattle.path.specs.declared.refusal.Refusal.{Refusal}
 use Rattle.path.specs.declared.refusal.Refusal.TheVariants as refusals
 use Rattle.pinned_cursors.specs.Tied.{AreTied}
@@ -125,24 +125,24 @@ module _ {D : Type 0} (history : D → History) (old new : Engine D) (planned : 
       → HasState history new.file (turn_start old) (world old).collections → IsUnchanged history old.file new.file
       → AreTied (has_changes old) history new.file new.cursors.list → new.told.value ≡ old.told.value
       → has_changes new ≡ has_changes old → IsLawful (world new) → (KeepsWord (disk_history history new) → DoesReading history planned r old new)
-      → OnErr r (world new ≡ world old) → PerformsReading history planned r old new
-  performs_tied r h goes state unchanged tied told changes lawful does left = record {
+      → OnErr r (world new ≡ world old) → RunsReadingCommand history planned r old new
+  performs_tied r h continues state unchanged tied told changes lawful as_planned left = record {
     performs = record {
-      sound = keeps_sound history old new h (subst (λ (k : Known). HasState history new.file (turn_start old) k.now) (sym told) state)
+      sound = keeps_sound history old new h (subst (λ (k : TurnStates). HasState history new.file (turn_start old) k.now) (sym told) state)
           (subst (λ (b : Bool). AreTied b history new.file new.cursors.list) (sym changes) tied)
-          (ap (λ (k : Known). k.start) told) lawful
-          (λ rests. ap (λ (k : Known). k.start) told ∙ h.quiet (sym changes ∙ rests) ∙ sym (ap (λ (k : Known). k.now) told))
-          (λ running rests. ap (λ (t : Bool × ℕ). t.0) unchanged ∙ h.unchanged (sym goes.running ∙ running) (sym changes ∙ rests));
-      goes = goes;
-      start = ap (λ (k : Known). k.start) told;
-      does = λ k. does_any history old new planned r (does k);
+          (ap (λ (k : TurnStates). k.start) told) lawful
+          (λ clean. ap (λ (k : TurnStates). k.start) told ∙ h.quiet (sym changes ∙ clean) ∙ sym (ap (λ (k : TurnStates). k.now) told))
+          (λ running clean. ap (λ (t : Bool × ℕ). t.0) unchanged ∙ h.unchanged (sym continues.running ∙ running) (sym changes ∙ clean));
+      continues = continues;
+      start = ap (λ (k : TurnStates). k.start) told;
+      as_planned = λ k. does_any history old new planned r (as_planned k);
       left = left;
       refused = either r;
       keeps = λ t. changes ∙ t;
     };
     changes = changes;
     takes = ap (λ (t : Bool × ℕ). t.1) unchanged;
-    does = does;
+    as_planned = as_planned;
   }
     where
       either : (x : Result Pairs Refusal) → OnErr x (has_changes new ≡ has_changes old)
@@ -154,14 +154,14 @@ module _ {D : Type 0} (history : D → History) (old new : Engine D) (planned : 
       (has_changes old) history new.file new.cursors.list
       → new.told.value ≡ old.told.value → has_changes new ≡ has_changes old → IsLawful (world new)
       → (KeepsWord (disk_history history new) → DoesReading history planned r old new) → OnErr r (world new ≡ world old)
-      → PerformsReading history planned r old new
+      → RunsReadingCommand history planned r old new
   performs_pins r h pins tied =
       performs_tied r h (continues_still history old new pins.untouched.disk pins.untouched.stopped pins.untouched.version pins.takes pins.untouched.reads)
       (pins.state (turn_start old) (world old).collections h.file) (λ i. (pins.unchanged i, pins.takes i)) tied
 
   pub performs_in_memory : (r : Result Pairs Refusal) → IsSound history old → Releases (has_changes old) history old.file new.file old.cursors new.cursors
       → new.told.value ≡ old.told.value → has_changes new ≡ has_changes old → IsLawful (world new) → Runs (world old) planned (world new) r
-      → PerformsReading history planned r old new
+      → RunsReadingCommand history planned r old new
   performs_in_memory r h file told changes lawful runs =
       performs_pins r h file.pins (file.tied h.tied) told changes lawful (λ k. does_planned r runs) (unchanged r runs)
     where
@@ -172,14 +172,14 @@ module _ {D : Type 0} (history : D → History) (old new : Engine D) (planned : 
 -- the same of a command that was read
 pub performs_told : {D : Type 0} (history : D → History) (old new : Engine D) (connection : ℕ) (c : Command) (r : Result Pairs Refusal) → IsSound history old
     → IsBounded c → Releases (has_changes old) history old.file new.file old.cursors new.cursors → new.told ≡ old.told → has_changes new ≡ has_changes old
-    → Runs (world old) (run (world old) connection c) (world new) r → PerformsReading history (run (world old) connection c) r old new
+    → Runs (world old) (run (world old) connection c) (world new) r → RunsReadingCommand history (run (world old) connection c) r old new
 performs_told history old new connection c r h b file told changes runs =
-    performs_in_memory history old new (run (world old) connection c) r h file (ap (λ (t : Told). t.value) told) changes
+    performs_in_memory history old new (run (world old) connection c) r h file (ap (λ (t : GhostState). t.value) told) changes
     (runs_lawful (world old) (world new) connection c r (lawful_world history old h) b runs) runs
 
 -- what was planned and what was returned, in other words
 pub performs_as : {D : Type 0} (history : D → History) (old new : Engine D) (planned other : Result (World × Pairs) Refusal) (r s : Result Pairs Refusal)
-    → planned ≡ other → r ≡ s → PerformsReading history other s old new → PerformsReading history planned r old new
+    → planned ≡ other → r ≡ s → RunsReadingCommand history other s old new → RunsReadingCommand history planned r old new
 performs_as history old new planned other r s is same h =
-    subst (λ (p : Result (World × Pairs) Refusal). PerformsReading history p r old new) (sym is)
-    (subst (λ (x : Result Pairs Refusal). PerformsReading history other x old new) (sym same) h)
+    subst (λ (p : Result (World × Pairs) Refusal). RunsReadingCommand history p r old new) (sym is)
+    (subst (λ (x : Result Pairs Refusal). RunsReadingCommand history other x old new) (sym same) h)

@@ -16,7 +16,7 @@ use Rattle.database_model.specs.Delete.{after_deletions, deleted_in}
 use Rattle.engine.specs.Looking.{Looks, LooksOf}
 use Rattle.database_model.specs.Merging.{is_deleted}
 use Rattle.statements.specs.Redoing.{all_taken}
-use Rattle.engine.specs.Removing.{IsTaken, Suffices, deleted}
+use Rattle.engine.specs.Removing.{IsTaken, FirstAreEnough, deleted}
 use Rattle.engine.specs.TakingOut.{HasHome, IsHome}
 use Rattle.engine.specs.View.{world}
 use Rattle.database_model.specs.World.{documents_or_none, documents_of}
@@ -38,11 +38,11 @@ taken_whole most xs few = take_all most xs (omega (arith, length-take most xs, f
 
 -- ---- how many are enough
 
-pub all_suffice : (deletions : List Deletion) → Suffices deletions (2 ^ 64 - 1)
+pub all_suffice : (deletions : List Deletion) → FirstAreEnough deletions (2 ^ 64 - 1)
 all_suffice deletions ds few =
     ap (all_taken deletions) (taken_whole (2 ^ 64 - 1) (filter (is_deleted deletions) ds) few) ∙ taken_alike deletions ds
 
-pub one_suffices : (ds : List Deletion) (d : Deletion) → 1 ≤ length ds → length ds < 2 → d ≡ slice_index_or ds 0 d → d.only_first ≡ true → Suffices ds 1
+pub one_suffices : (ds : List Deletion) (d : Deletion) → 1 ≤ length ds → length ds < 2 → d ≡ slice_index_or ds 0 d → d.only_first ≡ true → FirstAreEnough ds 1
 one_suffices [] d some few is first = absurd (omega (arith, some))
 one_suffices (x ∷ []) d some few is first =
     let here : x.only_first ≡ true = ap (λ (e : Deletion). e.only_first) (sym is) ∙ first in
@@ -56,7 +56,7 @@ module _ (name : List ℕ) (deletions : List Deletion) (most : ℕ) where
     pub there : HasHome now name home
 
   -- what is taken of them is what is taken of all
-  meant_taken : Suffices deletions most → (home : Catalogued) (now : List Collection) (found : List Pairs) (t : Taken) → AreMeant home now found
+  meant_taken : FirstAreEnough deletions most → (home : Catalogued) (now : List Collection) (found : List Pairs) (t : Taken) → AreMeant home now found
       → length found < 2 ^ 64 - 1 → t.home ≡ home
       → t.removed.items ≡ all_taken deletions found → IsTaken now name deletions t
   meant_taken suffices home now found t h few same made =
@@ -125,7 +125,7 @@ module _ {D : Type 0} (history : D → History) (name : List ℕ) (deletions : L
           };
         })
 
-  pub takes_meant : (most : ℕ) → Suffices deletions most → (home : Catalogued) (found : Vec Pairs) (t : Taken)
+  pub takes_meant : (most : ℕ) → FirstAreEnough deletions most → (home : Catalogued) (found : Vec Pairs) (t : Taken)
       → Looks history (λ now (found : Vec Pairs). AreMeant name deletions most home now found.items) (Ok found) a b
       → length found.items < 2 ^ 64 - 1 → t.home ≡ home → t.removed.items ≡ all_taken deletions found.items
       → Looks history (λ now t. IsTaken now name deletions t) (Ok t) a b

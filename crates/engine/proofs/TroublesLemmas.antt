@@ -4,7 +4,7 @@ use Rattle.std.proofs.lemmas.Bool.{cases_lt}
 use Rattle.bson.specs.Tree.{Pairs}
 use Rattle.page.specs.History.{History, KeepsWord}
 use Rattle.btree.specs.Store.{CountsReads}
-use Rattle.collections.specs.Calls.{GoesFrom, HasReadCause}
+use Rattle.collections.specs.Calls.{ExtendsTurn, HasReadCause}
 use Rattle.collections.specs.Walk.{IsWalk}
 use Rattle.collections.specs.declared.walk.Walk.{Walk}
 use Rattle.collections.specs.View.{pages_of}
@@ -14,7 +14,7 @@ use Rattle.database_model.specs.World.{World}
 use Rattle.path.specs.declared.refusal.Refusal.{Refusal}
 use Rattle.path.specs.declared.refusal.Refusal.TheVariants as refusals
 use Rattle.engine.specs.Continuing.{Continues}
-use Rattle.engine.specs.Durable.{disk_history, failed_reads_of, file_of, full_takes_of}
+use Rattle.engine.specs.Durable.{disk_history, failed_reads_of, file_of, failed_allocations_of}
 use Rattle.engine.specs.Performing.{DoesPlanned, DoesReading}
 use Rattle.engine.specs.Checking.{ChecksFile}
 use Rattle.engine.specs.Dump.{BeginsDump, GoesOnDumping, HasFaultCause}
@@ -29,7 +29,7 @@ use Rattle.engine.proofs.Continuing.{continues_of}
 use Rattle.engine.proofs.Sound.{answers_read, answers_refused}
 
 abbrev pub troubles_at : {D : Type 0} → (D → History) → Engine D → Troubles
-troubles_at history engine = record { failed_reads = failed_reads_of history engine; full_takes = full_takes_of history engine }
+troubles_at history engine = record { failed_reads = failed_reads_of history engine; failed_allocations = failed_allocations_of history engine }
 
 -- where more reads were counted, the device has failed more often
 failed_more : {D : Type 0} (history : D → History) (old new : Engine D) → CountsReads (pages_of history (file_of old)) (pages_of history (file_of new))
@@ -42,9 +42,9 @@ failed_more history old new counts more =
 -- no read failed where no more were counted
 pub met_no_failure : {D : Type 0} (history : D → History) (old new : Engine D) → Continues history old new → KeepsWord (disk_history history new)
     → failed_reads_of history new ≤ failed_reads_of history old → MetNoFailure history old new
-met_no_failure history old new goes k as_many = elim (cases_lt (disk_history history old).failures (disk_history history new).failures) [
-  | inl failed ↦ counted_then ((goes.counts k).counted failed)
-  | inr as_before ↦ inl (omega (arith, as_before, goes.reads.on.failures k))
+met_no_failure history old new continues k as_many = elim (cases_lt (disk_history history old).failures (disk_history history new).failures) [
+  | inl failed ↦ counted_then ((continues.counts k).counted failed)
+  | inr as_before ↦ inl (omega (arith, as_before, continues.reads.extends.failures k))
 ]
   where
     counted_then : (failed_reads_of history old < failed_reads_of history new) ⊎ (failed_reads_of history new ≡ 18446744073709551615)
@@ -54,7 +54,7 @@ met_no_failure history old new goes k as_many = elim (cases_lt (disk_history his
 
 -- ---- commands
 
-module _ {D : Type 0} (history : D → History) (old new : Engine D) (goes : Continues history old new) (met told : Refusal) where
+module _ {D : Type 0} (history : D → History) (old new : Engine D) (continues : Continues history old new) (met told : Refusal) where
   abbrev pub TellsHere : Type 0
   TellsHere = Tells met (troubles_at history old) (troubles_at history new) told
 
@@ -71,45 +71,45 @@ module _ {D : Type 0} (history : D → History) (old new : Engine D) (goes : Con
 
   module _ (k : KeepsWord (disk_history history new)) where
     counts : CountsReads (pages_of history (file_of old)) (pages_of history (file_of new))
-    counts = goes.counts k
+    counts = continues.counts k
 
     pub answers_told : (planned : Result (World × Pairs) Refusal) → DoesPlanned history planned (Err met) old new → TellsHere
         → IsAnswered (FileCause history (file_of old) (file_of new)) planned told
-    answers_told planned does (inl (same, none)) =
-        subst (IsAnswered (FileCause history (file_of old) (file_of new)) planned) (sym same) (answers_refused history old new planned met does)
-    answers_told planned does (inr (inl (is, more))) =
+    answers_told planned as_planned (inl (same, none)) =
+        subst (IsAnswered (FileCause history (file_of old) (file_of new)) planned) (sym same) (answers_refused history old new planned met as_planned)
+    answers_told planned as_planned (inr (inl (is, more))) =
         subst (IsAnswered (FileCause history (file_of old) (file_of new)) planned) (sym is)
         (inr (record {
           refusal = refusals.StorageFailed;
           cause = (inr (inl refl), λ word. inl (inr (inl (refl, inr (failed_more history old new counts more)))));
-          same = does.0;
+          same = as_planned.0;
           says = refl;
         }))
-    answers_told planned does (inr (inr (is, more))) =
+    answers_told planned as_planned (inr (inr (is, more))) =
         subst (IsAnswered (FileCause history (file_of old) (file_of new)) planned) (sym is)
         (inr (record {
           refusal = refusals.Full;
           cause = (inr (inr refl), λ word. inl (inr (inr (refl, inl more))));
-          same = does.0;
+          same = as_planned.0;
           says = refl;
         }))
 
     -- a command that only reads asks for no page
     pub answers_told_reading : (planned : Result (World × Pairs) Refusal) → DoesReading history planned (Err met) old new
-        → full_takes_of history new ≡ full_takes_of history old → TellsHere
+        → failed_allocations_of history new ≡ failed_allocations_of history old → TellsHere
         → IsAnswered (λ w. HasReadCause history (file_of old) (file_of new)) planned told
-    answers_told_reading planned does takes (inl (same, none)) =
-        subst (IsAnswered (λ w. HasReadCause history (file_of old) (file_of new)) planned) (sym same) (answers_read history old new planned met does)
-    answers_told_reading planned does takes (inr (inl (is, more))) =
+    answers_told_reading planned as_planned takes (inl (same, none)) =
+        subst (IsAnswered (λ w. HasReadCause history (file_of old) (file_of new)) planned) (sym same) (answers_read history old new planned met as_planned)
+    answers_told_reading planned as_planned takes (inr (inl (is, more))) =
         subst (IsAnswered (λ w. HasReadCause history (file_of old) (file_of new)) planned) (sym is)
-        (inr (record { refusal = refusals.StorageFailed; cause = inr (refl, inr (failed_more history old new counts more)); same = does.0; says = refl }))
-    answers_told_reading planned does takes (inr (inr (is, more))) = absurd (omega (arith, more, takes))
+        (inr (record { refusal = refusals.StorageFailed; cause = inr (refl, inr (failed_more history old new counts more)); same = as_planned.0; says = refl }))
+    answers_told_reading planned as_planned takes (inr (inr (is, more))) = absurd (omega (arith, more, takes))
 
     -- want of memory is told only where nothing else was met
     pub met_no_trouble : TellsHere → told ≡ refusals.OutOfMemory → MetNoTrouble history old new
     met_no_trouble (inl (same, none)) memory =
         let no_more = none (sym same ∙ memory) in
-        record { reads = met_no_failure history old new goes k no_more.0; takes = omega (arith, no_more.1, goes.takes k) }
+        record { reads = met_no_failure history old new continues k no_more.0; takes = omega (arith, no_more.1, continues.takes k) }
     met_no_trouble (inr (inl (is, more))) memory = let never : refusals.StorageFailed ≡ refusals.OutOfMemory = sym is ∙ memory in absurd cc
     met_no_trouble (inr (inr (is, more))) memory = let never : refusals.Full ≡ refusals.OutOfMemory = sym is ∙ memory in absurd cc
 
@@ -117,11 +117,11 @@ module _ {D : Type 0} (history : D → History) (old new : Engine D) (goes : Con
   pub told_as_met : file_of new ≡ file_of old → TellsHere → told ≡ met
   told_as_met same (inl (is, none)) = is
   told_as_met same (inr (inl (is, more))) = absurd (omega (arith, more, ap (λ f. (pages_of history f).failed_reads) same))
-  told_as_met same (inr (inr (is, more))) = absurd (omega (arith, more, ap (λ f. (pages_of history f).full_takes) same))
+  told_as_met same (inr (inr (is, more))) = absurd (omega (arith, more, ap (λ f. (pages_of history f).failed_allocations) same))
 
 -- ---- looks through the file
 
-module _ {D : Type 0} (history : D → History) (old new : Engine D) (goes : GoesFrom history (file_of old) (file_of new)) (met told : CheckFault) where
+module _ {D : Type 0} (history : D → History) (old new : Engine D) (continues : ExtendsTurn history (file_of old) (file_of new)) (met told : CheckFault) where
   abbrev pub TellsFaultHere : Type 0
   TellsFaultHere = TellsFault met (troubles_at history old) (troubles_at history new) told
 
@@ -134,10 +134,10 @@ module _ {D : Type 0} (history : D → History) (old new : Engine D) (goes : Goe
       → HasFaultCause history IsMissing old new told
   cause_told IsMissing k cause (inl (same, none)) = subst (HasFaultCause history IsMissing old new) (sym same) cause
   cause_told IsMissing k cause (inr (is, more)) =
-      subst (HasFaultCause history IsMissing old new) (sym is) (inr (failed_more history old new (goes.frame k).counts more))
+      subst (HasFaultCause history IsMissing old new) (sym is) (inr (failed_more history old new (continues.frame k).counts more))
 
   pub memory_told : KeepsWord (disk_history history new) → TellsFaultHere → told ≡ faults.Memory → MetNoFailure history old new
-  memory_told k (inl (same, none)) memory = met_no_failure history old new (continues_of history old new goes) k (none (sym same ∙ memory))
+  memory_told k (inl (same, none)) memory = met_no_failure history old new (continues_of history old new continues) k (none (sym same ∙ memory))
   memory_told k (inr (is, more)) memory = let never : faults.Device ≡ faults.Memory = sym is ∙ memory in absurd cc
 
   pub check_told : ChecksFile history (Err met) old new → TellsFaultHere → ChecksFile history (Err told) old new

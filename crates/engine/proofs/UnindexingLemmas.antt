@@ -43,8 +43,8 @@ removed_none edits number i = (removes_one_more edits number i).0
 pub removed_next : (old mid new : List Edit) (number : ℕ) (i : Definition) (ds : List Pairs) (k : ℕ) (d : Pairs) → k < length ds → d ≡ get_or ds k d
     → HasRemovedEntries old mid number i (take k ds)
     → GoesOnBy mid (removals (index_entries number d i)) new → HasRemovedEntries old new number i (take (k + 1) ds)
-removed_next old mid new number i ds k d within is removed goes =
-    subst (HasRemovedEntries old new number i) (sym (taken_next ds k d within is)) ((removes_one_more old number i).1 mid new (take k ds) d removed goes)
+removed_next old mid new number i ds k d within is removed continues =
+    subst (HasRemovedEntries old new number i) (sym (taken_next ds k d within is)) ((removes_one_more old number i).1 mid new (take k ds) d removed continues)
 
 -- those of some documents, and of others behind them
 pub removed_further : (old mid new : List Edit) (number : ℕ) (i : Definition) (ds es : List Pairs) → HasRemovedEntries old mid number i ds
@@ -84,14 +84,14 @@ module _ {D : Type 0} (history : D → History) (old : Engine D) (h : IsSound hi
 
   pub batch_unread : (e : Refusal) → Reading (Err e) → Steps (Err e)
   batch_unread e read = record {
-    reads = reads_file history old file h read.on read.unchanged read.same;
+    reads = reads_file history old file h read.extends read.unchanged read.same;
     answers = λ k rest is. read.answers k old.told.value.start (world old).collections h.file rest is.walks;
   }
 
   module _ (batch : Vec Pairs) (read : Reading (Ok batch)) where
     pub batch_stays : (e : Refusal) → (All (HasKeysIn i) batch.items → e ≡ refusals.OutOfMemory) → Steps (Err e)
     batch_stays e refused = record {
-      reads = reads_file history old file h read.on read.unchanged read.same;
+      reads = reads_file history old file h read.extends read.unchanged read.same;
       answers = λ k rest is.
           let next = read.answers k old.told.value.start (world old).collections h.file rest is.walks in
           inl (refused (subst (All (HasKeysIn i)) (sym next.0.first) (All-take (HasKeysIn i) (length batch.items) rest is.keyed)));
@@ -99,7 +99,7 @@ module _ {D : Type 0} (history : D → History) (old : Engine D) (h : IsSound hi
 
     pub batch_unindexed : (more : Bool) → HasRemovedEntries before after number i batch.items → (more ≡ false → batch.items ≡ []) → Steps (Ok more)
     batch_unindexed more removed empty = record {
-      reads = reads_file history old file h read.on read.unchanged read.same;
+      reads = reads_file history old file h read.extends read.unchanged read.same;
       answers = λ k rest is.
           let next = read.answers k old.told.value.start (world old).collections h.file rest is.walks in
           let n = length batch.items in
@@ -167,21 +167,21 @@ module _ {D : Type 0} (history : D → History) (number : ℕ) (i : Definition) 
         → Unindexed number i before edits walk (world mid).collections c
     left_now more k c is =
         subst (λ (cs : List Collection). Unindexed number i before edits walk cs c) (sym same_now)
-        (far.answers (word_before history mid.file new.file more.goes k) c is)
+        (far.answers (word_before history mid.file new.file more.continues k) c is)
 
     pub unindexed_refused : (last : List Edit) (e : Refusal) → Step (Err e) → Unindexes last (Err e) new
     unindexed_refused last e step = record {
       reads = reads_on history old mid new far.reads step.reads;
       answers = λ k c is.
           let l = left_now step.reads k c is in
-          cause_from history old.file mid.file new.file far.reads.goes (word_before history mid.file new.file step.reads.goes k) e
+          cause_from history old.file mid.file new.file far.reads.continues (word_before history mid.file new.file step.reads.continues k) e
           (step.answers k l.left l.unindexing);
     }
 
     pub unindexed_on : Step (Ok true) → HasUnindexedTo history number i before after later old new
     unindexed_on step = record {
       reads = reads_on history old mid new far.reads step.reads;
-      running = stopped_same history mid.file.pager new.file.pager step.reads.goes.stays ∙ far.running;
+      running = stopped_same history mid.file.pager new.file.pager step.reads.continues.stays ∙ far.running;
       answers = λ k c is.
           let l = left_now step.reads k c is in
           let has = step.answers k l.left l.unindexing in

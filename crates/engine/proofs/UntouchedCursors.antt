@@ -12,7 +12,7 @@ pub filter_untouched : (p : Cursor → Bool) (cs : List Cursor) → are_untouche
 filter_untouched p [] e = refl
 filter_untouched p (c ∷ cs) e = at (not c.touched) (p c) refl refl e (λ f. filter_untouched p cs f)
   where
-    at : (rests kept : Bool) → not c.touched ≡ rests → p c ≡ kept → (rests && are_untouched cs) ≡ true
+    at : (clean kept : Bool) → not c.touched ≡ clean → p c ≡ kept → (clean && are_untouched cs) ≡ true
         → (are_untouched cs ≡ true → are_untouched (filter p cs) ≡ true) → are_untouched (filter p (c ∷ cs)) ≡ true
     at true true r k e later = rw k (rw r (later e))
     at true false r k e later = rw k (later e)
@@ -22,6 +22,6 @@ pub untouched_untouched : (cs : List Cursor) → are_untouched (untouched cs) �
 untouched_untouched [] = refl
 untouched_untouched (c ∷ cs) = at (not c.touched) refl (untouched_untouched cs)
   where
-    at : (rests : Bool) → not c.touched ≡ rests → are_untouched (untouched cs) ≡ true → are_untouched (untouched (c ∷ cs)) ≡ true
+    at : (clean : Bool) → not c.touched ≡ clean → are_untouched (untouched cs) ≡ true → are_untouched (untouched (c ∷ cs)) ≡ true
     at true r later = rw r (rw r later)
     at false r later = rw r later

@@ -18,20 +18,20 @@ use Rattle.entries.specs.LawfulState as states
 use Rattle.entries.specs.State.{Collection}
 use Rattle.entries.specs.StateEntries.{Leads}
 use Rattle.engine.specs.Durable.{disk_history, file_of, has_changes, IsRunning}
-use Rattle.opening.specs.Known.{Known}
+use Rattle.opening.specs.TurnStates.{TurnStates}
 use Rattle.database_model.specs.Lawful.{IsLawfulState}
 use Rattle.engine.specs.Looking.{OnlyReads}
-use Rattle.engine.specs.Performing.{Performs}
+use Rattle.engine.specs.Performing.{RunsCommand}
 use Rattle.engine.specs.Putting.{ArePlanned, AreWritesOf, ComesTo, EndsIn, IsFullFor, IsUpdate, NotesWrites, RepliesTo}
 use Rattle.database_model.specs.Refusals.{ok_reply}
 use Rattle.database_model.specs.Step.{ChangesNone}
-use Rattle.engine.specs.Trying.{Tries}
+use Rattle.engine.specs.Trying.{MayRefuse}
 use Rattle.database_model.specs.Update.{judged, not_updated, run_all, run_statements, spelled, Updated, update_reply}
 use Rattle.database_model.specs.UpdateCommand.{entered_in, run_update, updated, writes_in, written_in}
 use Rattle.statements.specs.Updating.{seen}
 use Rattle.engine.specs.View.{world}
 use Rattle.database_model.specs.World.{World, documents_of}
-use Rattle.engine.specs.Writing.{Makes, planned_or, Writes}
+use Rattle.engine.specs.Writing.{ChangesCollections, planned_or, Writes}
 use Rattle.engine.specs.declared.engine.Engine.{Engine}
 use Rattle.statements.specs.declared.statements.Ran.{Ran}
 use Rattle.statements.specs.declared.statements.Tally.{Tally}
@@ -194,9 +194,9 @@ module _ {D : Type 0} (history : D → History) (name : List ℕ) (ss : List Upd
       at (Err e) (Err f) = refl
 
   abbrev Runs : Result Pairs Refusal → Engine D → Type 0
-  Runs r new = Performs history (run (world old)) r old new
+  Runs r new = RunsCommand history (run (world old)) r old new
 
-  refused_makes : (new : Engine D) (e : Refusal) → Makes history (plan name ss now) (Err e) old new → Runs (Err e) new
+  refused_makes : (new : Engine D) (e : Refusal) → ChangesCollections history (plan name ss now) (Err e) old new → Runs (Err e) new
   refused_makes new e makes = performs_refused history (reply_in (run_all name ss now)) (plan name ss now) (run (world old)) old new runs e makes
 
   -- it was refused before anything was written
@@ -205,22 +205,22 @@ module _ {D : Type 0} (history : D → History) (name : List ℕ) (ss : List Upd
   unwritten mid e reads why = refused_makes mid e (makes_none history (plan name ss now) old mid e reads why)
 
   done_makes : (new : Engine D) (d : Pairs) → (KeepsWord (disk_history history new) → IsReplied now name ss d)
-      → Makes history (plan name ss now) (Ok tt) old new → Runs (Ok d) new
+      → ChangesCollections history (plan name ss now) (Ok tt) old new → Runs (Ok d) new
   done_makes new d replied makes = record {
     sound = makes.sound;
-    goes = continues_of history old new makes.goes;
+    continues = continues_of history old new makes.continues;
     start = makes.start;
-    does = λ k.
+    as_planned = λ k.
         let x = replied k in
         let said = x.replied ∙ ap (λ (r : Result Updated Refusal). ok_reply (reply_in r)) (sym x.is) in
-        (performs_done history (reply_in (run_all name ss now)) (plan name ss now) (run (world old)) old new runs d said makes).does k;
+        (performs_done history (reply_in (run_all name ss now)) (plan name ss now) (run (world old)) old new runs d said makes).as_planned k;
     left = tt;
     refused = tt;
     keeps = makes.keeps;
   }
 
   abbrev Tried : Result Ran Refusal → Engine D → Type 0
-  Tried r mid = Tries history (IsUpdate now name ss) (IsFullFor now name ss) r old mid
+  Tried r mid = MayRefuse history (IsUpdate now name ss) (IsFullFor now name ss) r old mid
 
   pub update_unmade : (mid : Engine D) (e : Refusal) → Tried (Err e) mid → Runs (Err e) mid
   update_unmade mid e tries = unwritten mid e tries.reads (λ k. elim (tries.answers k) [
@@ -243,10 +243,10 @@ module _ {D : Type 0} (history : D → History) (name : List ℕ) (ss : List Upd
       pub nothing_said : (d : Pairs) → RepliesTo x.end (Ok d) → Runs (Ok d) mid
       nothing_said d replies = done_makes mid d (λ k. replied_done now name ss x.writes.items x.end d (tries.answers k).end replies) (record {
         sound = tries.reads.sound;
-        goes = tries.reads.goes;
-        start = ap (λ (k : Known). k.start) tries.reads.told;
+        continues = tries.reads.continues;
+        start = ap (λ (k : TurnStates). k.start) tries.reads.told;
         cursors = tries.reads.cursors;
-        does = λ k.
+        as_planned = λ k.
             let u = tries.answers k in
             let r = replied_done now name ss x.writes.items x.end d u.end replies in
             nothing_done name ss now x u none r.after r.is
@@ -270,7 +270,7 @@ module _ {D : Type 0} (history : D → History) (name : List ℕ) (ss : List Upd
       same_mid = now_same history old mid tries.reads
 
       its_update : OnlyReads history mid last → KeepsWord (disk_history history last) → IsUpdate now name ss x
-      its_update later k = tries.answers (word_before history mid.file last.file later.goes k)
+      its_update later k = tries.answers (word_before history mid.file last.file later.continues k)
 
       its_writes : OnlyReads history mid last → KeepsWord (disk_history history last) → AreWritesOf (documents_of (world mid).collections name) x.writes.items
       its_writes later k = subst (λ (cs : List Collection). AreWritesOf (documents_of cs name) x.writes.items) (sym same_mid) (its_update later k).writes
@@ -281,7 +281,7 @@ module _ {D : Type 0} (history : D → History) (name : List ℕ) (ss : List Upd
             | inl is ↦ inl
                 (written_refused name ss now x (its_update notes.reads k) some e (ap (written_in name (map seen x.writes.items)) (sym same_mid) ∙ is))
             | inr cause ↦ inr
-                (cause_from history old.file mid.file last.file tries.reads.goes (word_before history mid.file last.file notes.reads.goes k) e cause)
+                (cause_from history old.file mid.file last.file tries.reads.continues (word_before history mid.file last.file notes.reads.continues k) e cause)
           ])
 
       module _ (edits : List Edit) (notes : Edits_of (Ok edits)) where
@@ -327,7 +327,7 @@ module _ {D : Type 0} (history : D → History) (name : List ℕ) (ss : List Upd
             abbrev Written : Result (Unit {0}) Refusal → Type 0
             Written r = Writes history (planned_or (world last).collections (plan name ss (world last).collections)) r last new
 
-            writes_made : (r : Result (Unit {0}) Refusal) → Written r → Makes history (plan name ss now) r old new
+            writes_made : (r : Result (Unit {0}) Refusal) → Written r → ChangesCollections history (plan name ss now) r old new
             writes_made r writes =
                 makes_written history (plan name ss) old last new all_reads r
                 (λ k. let p = planned_now k in planned_is (world last).collections p.next (plan name ss (world last).collections) p.is) writes
@@ -338,7 +338,7 @@ module _ {D : Type 0} (history : D → History) (name : List ℕ) (ss : List Upd
             pub update_done : Written (Ok tt) → Runs (Ok d) new
             update_done writes =
                 done_makes new d (λ k.
-                let u = its_update notes.reads (word_before history last.file new.file writes.goes k) in
+                let u = its_update notes.reads (word_before history last.file new.file writes.continues k) in
                 replied_done now name ss x.writes.items x.end d u.end replies) (writes_made (Ok tt) writes)
 
             -- no document changed, so none was written
@@ -347,7 +347,7 @@ module _ {D : Type 0} (history : D → History) (name : List ℕ) (ss : List Upd
             nothing_changed writes k none = at x.end refl replies
               where
                 u : IsUpdate now name ss x
-                u = its_update notes.reads (word_before history last.file new.file writes.goes k)
+                u = its_update notes.reads (word_before history last.file new.file writes.continues k)
 
                 at : (r : Result Tally Refusal) → x.end ≡ r → RepliesTo r (Ok d) → has_changes new ≡ has_changes old
                 at (Ok t) is said = absurd (some (nothing_written name ss now x u (world old) refl t is none))

@@ -19,7 +19,7 @@ use Rattle.database_model.specs.Insert.{is_full}
 use Rattle.engine.specs.Looking.{OnlyReads}
 use Rattle.engine.specs.Putting.{ArePlanned, AreWritesOf, NotesWrites}
 use Rattle.engine.specs.Storing.{AreNoted, HasNoted, IsFull, MayEnter, Notes, entering, write_of}
-use Rattle.engine.specs.Trying.{Tries}
+use Rattle.engine.specs.Trying.{MayRefuse}
 use Rattle.database_model.specs.UpdateCommand.{written_in}
 use Rattle.statements.specs.Updating.{MayBePut, news_of, seen}
 use Rattle.engine.specs.View.{world}
@@ -95,7 +95,7 @@ module _ {D : Type 0} (history : D → History) (name : List ℕ) (all : List Wr
     so_far : {first : Collection} → OnlyReads history mid new → KeepsWord (disk_history history new)
         → AreNoted (world old).collections name home_before before first → AreWritesOf first.documents all
         → WritesSoFar (world old).collections name home edits all (w ∷ left) first
-    so_far {first} later k noted writes = far.answers (word_before history mid.file new.file later.goes k) first noted writes
+    so_far {first} later k noted writes = far.answers (word_before history mid.file new.file later.continues k) first noted writes
 
     noted_now : {first : Collection} (f : WritesSoFar (world old).collections name home edits all (w ∷ left) first)
         → AreNoted (world mid).collections name home edits f.reached
@@ -119,7 +119,8 @@ module _ {D : Type 0} (history : D → History) (name : List ℕ) (all : List Wr
           let f = so_far step.reads k noted writes in
           elim (step.answers k f.reached (noted_now f) (f.writes.0.storable, f.writes.0.there)) [
             | inl refused ↦ inl (enters_seen (world old).collections name all first home edits w left f (Err e) refused)
-            | inr cause ↦ inr (cause_from history old.file mid.file new.file far.reads.goes (word_before history mid.file new.file step.reads.goes k) e cause)
+            | inr cause ↦ inr (cause_from history old.file mid.file new.file far.reads.continues
+                (word_before history mid.file new.file step.reads.continues k) e cause)
           ];
     }
 
@@ -157,7 +158,7 @@ written_full cs name ws e (is, full) =
 module _ {D : Type 0} (history : D → History) (name : List ℕ) (ws : List Write) (old mid : Engine D) (before : List Edit) where
   abbrev TargetOf : Result Catalogued Refusal → Type 0
   TargetOf r =
-      Tries history (λ home. AreNoted (world old).collections name home before (collection_of (world old).collections name))
+      MayRefuse history (λ home. AreNoted (world old).collections name home before (collection_of (world old).collections name))
       (IsFull (world old).collections name) r old mid
 
   pub edits_untargeted : (e : Refusal) → TargetOf (Err e) → NotesWrites history name ws (Err e) old mid
@@ -180,7 +181,7 @@ module _ {D : Type 0} (history : D → History) (name : List ℕ) (ws : List Wri
         → AreNoted (world mid).collections name home before (collection_of (world mid).collections name)
     noted_first later k =
         subst (λ (cs : List Collection). AreNoted cs name home before (collection_of cs name)) (sym same_there)
-        (target.answers (word_before history mid.file last.file later.goes k))
+        (target.answers (word_before history mid.file last.file later.continues k))
 
     there_too : AreWritesOf (documents_of (world old).collections name) ws → AreWritesOf (documents_of (world mid).collections name) ws
     there_too are = subst (λ (cs : List Collection). AreWritesOf (documents_of cs name) ws) (sym same_there) are
@@ -194,7 +195,7 @@ module _ {D : Type 0} (history : D → History) (name : List ℕ) (ws : List Wri
           elim (notes.answers k (collection_of cs name) noted (there_too are)) [
             | inl refused ↦ inl (ap (written_in name (map seen ws)) (sym same_there) ∙ written_there cs name (map seen ws) (Err e) noted.room refused)
             | inr cause ↦ inr
-                (cause_from history old.file mid.file last.file target.reads.goes (word_before history mid.file last.file notes.reads.goes k) e cause)
+                (cause_from history old.file mid.file last.file target.reads.continues (word_before history mid.file last.file notes.reads.continues k) e cause)
           ];
     }
 

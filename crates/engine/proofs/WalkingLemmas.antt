@@ -24,7 +24,7 @@ use Rattle.pinned_cursors.specs.Turns.{Releases}
 use Rattle.path.specs.declared.refusal.Refusal.{Refusal}
 use Rattle.path.specs.declared.refusal.Refusal.TheVariants as refusals
 use Rattle.database_model.specs.Cursors.{batch_of, batch_reply, first_batch, is_refused, new_cursor}
-use Rattle.database_model.specs.Find.{Suffices, given, matching, query_result, run_find, window}
+use Rattle.database_model.specs.Find.{FirstAreEnough, given, matching, query_result, run_find, window}
 use Rattle.sort.specs.Sort.{SortField, order}
 use Rattle.queries.proofs.IdOrderLemmas.{keeps_matching}
 use Rattle.queries.proofs.OrderingLemmas.{first_kept}
@@ -43,7 +43,7 @@ use Rattle.replies.specs.declared.batch_spelling.BatchKind.TheVariants as kinds
 use Rattle.statements.proofs.KeptLemmas.{stored_at}
 use Rattle.database_model.proofs.Numbers.{found_kept}
 use Rattle.engine.specs.Durable.{IsSound, disk_history}
-use Rattle.engine.specs.Performing.{PerformsReading}
+use Rattle.engine.specs.Performing.{RunsReadingCommand}
 use Rattle.engine.specs.TakingOut.{HasHome}
 use Rattle.engine.specs.View.{world, world_of}
 use Rattle.engine.specs.Walking.{AreOf, IsWholeWalk}
@@ -63,7 +63,7 @@ walk_within rules p skip limit from ds stored =
     (All-filter (matches rules) IsWithin (rest_from from ds) (All-filter (is_from from) IsWithin ds within)))
 
 -- what was found in the order of a query is what it asks for, as far as so many suffice
-pub found_ordered : (w : World) (connection : ℕ) (name : List ℕ) (q : Query) (most enough : ℕ) (found : List Pairs) → Suffices q enough
+pub found_ordered : (w : World) (connection : ℕ) (name : List ℕ) (q : Query) (most enough : ℕ) (found : List Pairs) → FirstAreEnough q enough
     → found ≡ take enough (order q.sort (matching q.filter (documents_of w.collections name))) → length found < 2 ^ 64 - 1
     → first_batch w connection name (given q found) (batch_of most (given q found))
     ≡ run_find w connection (record { namespace = name; query = q; batch_size = Some most })
@@ -83,7 +83,7 @@ stand_so history e name q sound keeps =
 
 -- then what was found in the order of `_id` is what it asks for, too
 pub found_plain : (w : World) (connection : ℕ) (name : List ℕ) (q : Query) (most : ℕ) → StandInOrder w name q → (enough : ℕ) (found : List Pairs)
-    → Suffices q enough → found ≡ take enough (matching q.filter (documents_of w.collections name)) → length found < 2 ^ 64 - 1
+    → FirstAreEnough q enough → found ≡ take enough (matching q.filter (documents_of w.collections name)) → length found < 2 ^ 64 - 1
     → first_batch w connection name (given q found) (batch_of most (given q found))
     ≡ run_find w connection (record { namespace = name; query = q; batch_size = Some most })
 found_plain w connection name q most stand enough found suffices is few =
@@ -125,12 +125,12 @@ module _ (w : World) (connection : ℕ) (name : List ℕ) (q : Query) (most : �
       ∙ whole_batch w connection name gs b.count asked.number b.reply (subst (λ (es : List Pairs). length es ≤ b.count) rest_is few) says
 
   module _ (text : Vec ℕ) (some : b.next ≡ Some text) where
-    on : GoesOn walk ds b.count text.items
-    on = subst
+    extends : GoesOn walk ds b.count text.items
+    extends = subst
         (λ (o : Option (Vec ℕ)). MatchOption o (length (rest_of walk ds) ≤ b.count) (λ text. GoesOn walk ds b.count text.items)) some given.next
 
     over : b.count < length gs
-    over = subst (λ (es : List Pairs). b.count < length es) rest_is on.more
+    over = subst (λ (es : List Pairs). b.count < length es) rest_is extends.more
 
     pub walked_refused : is_refused connection w.cursors w.next ≡ true → planned ≡ Err refusals.TooMany
     walked_refused full = planned_is ∙ refused_batch w connection name gs b.count over full
@@ -142,7 +142,7 @@ module _ (w : World) (connection : ℕ) (name : List ℕ) (q : Query) (most : �
     pub walked_opened : asked.number ≡ w.next → is_refused connection w.cursors w.next ≡ false → (new : World)
         → new ≡ record w { cursors = w.cursors ++ new_cursor w.next connection name left ∷ []; next = w.next + 1 } → with_ok planned ≡ Ok (new, b.reply)
     walked_opened number free new made =
-        let behind : left ≡ drop b.count gs = on.left ∙ ap (drop b.count) rest_is in
+        let behind : left ≡ drop b.count gs = extends.left ∙ ap (drop b.count) rest_is in
         ap with_ok planned_is
         ∙ opened_batch w connection name gs b.count asked.number b.reply new over number free
         (made ∙ ap (λ (es : List Pairs). let x : World =
@@ -230,7 +230,7 @@ module _ {D : Type 0} (history : D → History) (mid : Engine D) (connection : �
 
     module _ {E : Type 0} (planned : Result (World × Pairs) Refusal) where
       pub opens_done : Opens {E = E} (Ok tt) → (reply : Pairs) → (KeepsWord (disk_history history mid) → with_ok planned ≡ Ok (with_rest, reply))
-          → PerformsReading history planned (Ok reply) mid new
+          → RunsReadingCommand history planned (Ok reply) mid new
       opens_done opens reply is =
           let made : world new ≡ with_rest = ap (world_of mid.told.value) opens.ok in
           performs_pins history mid new planned (Ok reply) h opens.pins (opens.tied left mid.is_changed h.unchanged h.tied) refl refl
@@ -238,7 +238,7 @@ module _ {D : Type 0} (history : D → History) (mid : Engine D) (connection : �
           (λ k. is (subst KeepsWord opens.pins.untouched.disk k)
           ∙ (λ i. let r : Result (World × Pairs) Refusal = Ok (sym made i, reply) in r)) tt
 
-      pub opens_failed : (fault : E) → Opens (Err fault) → (e : Refusal) → e ≡ refusals.OutOfMemory → PerformsReading history planned (Err e) mid new
+      pub opens_failed : (fault : E) → Opens (Err fault) → (e : Refusal) → e ≡ refusals.OutOfMemory → RunsReadingCommand history planned (Err e) mid new
       opens_failed fault opens e memory =
           let same : world new ≡ world mid = ap (λ (t : Held). world_of mid.told.value (table_of t)) opens.err in
           performs_pins history mid new planned (Err e) h opens.pins (opens.tied left mid.is_changed h.unchanged h.tied) refl refl

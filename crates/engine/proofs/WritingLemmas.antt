@@ -12,20 +12,20 @@ use Rattle.collections.specs.Standing.{HasState}
 use Rattle.collections.specs.State.{State}
 use Rattle.collections.proofs.LawLemmas as laws
 use Rattle.engine.specs.Durable.{disk_history, is_stopped, IsRunning, IsSound}
-use Rattle.opening.specs.Known.{Known}
+use Rattle.opening.specs.TurnStates.{TurnStates}
 use Rattle.pinned_cursors.proofs.TurnTied.{tied_changed, tied_on}
 use Rattle.database_model.specs.Lawful.{IsLawfulState}
 use Rattle.engine.specs.View.{world}
 use Rattle.engine.specs.Writing.{Writes}
 use Rattle.engine.specs.declared.engine.Engine.{Engine}
-use Rattle.opening.specs.declared.told.Told.{Told}
+use Rattle.opening.specs.declared.ghost_state.GhostState.{GhostState}
 
 module _ {D : Type 0} (history : D → History) (old : Engine D) (h : IsSound history old) where
   -- a file that has stopped takes nothing
   pub writes_stopped : (after : List Collection) → is_stopped old ≡ true → Writes history after (Err refusals.StorageFailed) old old
   writes_stopped after stopped = record {
     sound = h;
-    goes = laws.goes_from_itself history old.file;
+    continues = laws.goes_from_itself history old.file;
     start = refl;
     cursors = refl;
     ok = tt;
@@ -39,23 +39,23 @@ module _ {D : Type 0} (history : D → History) (old : Engine D) (h : IsSound hi
       → Leads edits (world old).collections after × states.IsLawfulState after)
       (running : IsRunning old) (file : State D) where
     -- they were put into it
-    pub writes_done : (told : Told) → told.value ≡ record { start = old.told.value.start; now = after } → IsLawfulState after
+    pub writes_done : (told : GhostState) → told.value ≡ record { start = old.told.value.start; now = after } → IsLawfulState after
         → Applies history edits (Ok tt) old.file file
         → Writes history after (Ok tt) old (record old { file = file; told = told; is_changed = true })
     writes_done told is lawful applies = record {
       sound = record {
-        lawful = subst (λ (k : Known). IsLawfulState k.now) (sym is) lawful;
+        lawful = subst (λ (k : TurnStates). IsLawfulState k.now) (sym is) lawful;
         cursors = h.cursors;
-        before = subst (λ (k : Known). IsLawfulState k.start) (sym is) h.before;
-        quiet = λ rests. absurd cc;
-        file = subst (λ (k : Known). HasState history file k.start k.now) (sym is) has;
-        unchanged = λ running rests. absurd cc;
-        tied = tied_on history old.file file old.cursors.list true applies.on (tied_changed history old.file old.cursors.list old.is_changed h.tied);
+        before = subst (λ (k : TurnStates). IsLawfulState k.start) (sym is) h.before;
+        quiet = λ clean. absurd cc;
+        file = subst (λ (k : TurnStates). HasState history file k.start k.now) (sym is) has;
+        unchanged = λ running clean. absurd cc;
+        tied = tied_on history old.file file old.cursors.list true applies.extends (tied_changed history old.file old.cursors.list old.is_changed h.tied);
       };
-      goes = applies.on;
-      start = ap (λ (k : Known). k.start) is;
+      continues = applies.extends;
+      start = ap (λ (k : TurnStates). k.start) is;
       cursors = refl;
-      ok = ap (λ (k : Known). k.now) is;
+      ok = ap (λ (k : TurnStates). k.now) is;
       err = tt;
       kinds = tt;
       cause = λ k. tt;
@@ -64,7 +64,7 @@ module _ {D : Type 0} (history : D → History) (old : Engine D) (h : IsSound hi
       where
         has : HasState history file old.told.value.start after
         has run k =
-            let l = leads (applies.on.frame k).word running in
+            let l = leads (applies.extends.frame k).word running in
             applies.state old.told.value.start old.told.value.now after h.file l.0 l.1 run k
 
     -- nothing of them was
@@ -76,20 +76,20 @@ module _ {D : Type 0} (history : D → History) (old : Engine D) (h : IsSound hi
         before = h.before;
         quiet = h.quiet;
         file = has;
-        unchanged = λ on rests. applies.unchanged ∙ h.unchanged running rests;
-        tied = tied_on history old.file file old.cursors.list old.is_changed applies.on h.tied;
+        unchanged = λ extends clean. applies.unchanged ∙ h.unchanged running clean;
+        tied = tied_on history old.file file old.cursors.list old.is_changed applies.extends h.tied;
       };
-      goes = applies.on;
+      continues = applies.extends;
       start = refl;
       cursors = refl;
       ok = tt;
       err = (refl, refl);
       kinds = applies.kinds;
-      cause = λ k. let l = leads (applies.on.frame k).word running in applies.cause k old.told.value.start old.told.value.now after h.file l.0 l.1;
+      cause = λ k. let l = leads (applies.extends.frame k).word running in applies.cause k old.told.value.start old.told.value.now after h.file l.0 l.1;
       keeps = λ t. t;
     }
       where
         has : HasState history file old.told.value.start old.told.value.now
         has run k =
-            let l = leads (applies.on.frame k).word running in
+            let l = leads (applies.extends.frame k).word running in
             applies.state old.told.value.start old.told.value.now after h.file l.0 l.1 run k

@@ -2,16 +2,17 @@
 use Rattle.std.specs.Prelude.{◌≡◌, ◌≢◌, ◌⊎◌, ◌<◌, ◌≤◌, ◌+◌, ◌-◌, ◌^◌, true, false, ◌&&◌}
 use Rattle.std.specs.Prelude.{if◌then◌else◌, Result, Ok, Err, is_ok, OnOk, OnErr}
 use Rattle.page.specs.History.{History, KeepsWord}
-use Rattle.page.specs.Crash.{GoesOn, LeavesOnly, LeavesNow}
+use Rattle.page.specs.Crash.{ExtendsHistory, LeavesOnly, CrashLeaves}
 use Rattle.btree.specs.Store.{HasNoPage}
 use Rattle.roots.specs.declared.store.CommitFault.{CommitFault}
 use Rattle.roots.specs.declared.store.CommitFault.TheVariants as faults
 use Rattle.collections.specs.View.{pages_of}
 use Rattle.database_model.specs.World.{are_untouched, after_commit, after_undo}
 use Rattle.engine.specs.View.{world, turn_start}
-use Rattle.engine.specs.Durable.{disk_history, file_of, full_takes_of, generation, has_changes}
+use Rattle.engine.specs.Durable.{disk_history, file_of, failed_allocations_of, generation}
+use Rattle.engine.specs.Durable.{has_changes}
 use Rattle.engine.specs.Durable.{is_stopped, IsRunning, IsSound}
-use Rattle.opening.specs.Holding.{Holds}
+use Rattle.opening.specs.Holding.{HoldsCollections}
 use Rattle.engine.specs.declared.engine.Engine.{Engine}
 
 -- A page was asked for and none was free, which is counted (the count stays at its greatest value).
@@ -20,10 +21,10 @@ FoundNoPage history old new =
     HasNoPage (pages_of history (file_of old)) (pages_of history (file_of new))
 
 -- The turn was ended, and what it changed is durable, or not.
-pub record Commits {D : Type 0} (history : D → History) (result : Result (Unit {0}) CommitFault)
+pub record CommitsTurn {D : Type 0} (history : D → History) (result : Result (Unit {0}) CommitFault)
     (old new : Engine D) : Type 0 where
   pub sound : IsSound history new
-  pub on : GoesOn (disk_history history old) (disk_history history new)
+  pub extends : ExtendsHistory (disk_history history old) (disk_history history new)
   pub done : OnOk result (world new ≡ after_commit (world old))
   pub stops : result ≡ Err faults.Device
       → (world new ≡ after_commit (world old)) × (is_stopped new ≡ true)
@@ -38,21 +39,24 @@ pub record Commits {D : Type 0} (history : D → History) (result : Result (Unit
       ≡ (if is_ok result && has_changes old then generation old + 1 else generation old)
   pub ended : turn_start new ≡ (world new).collections
   -- how often a page was asked for and none was free: never fewer, and more often only at Full
-  pub takes : full_takes_of history old ≤ full_takes_of history new
-  pub found : result ≢ Err faults.Full → full_takes_of history new ≡ full_takes_of history old
+  pub takes : failed_allocations_of history old ≤ failed_allocations_of history new
+  pub found : result ≢ Err faults.Full → failed_allocations_of history new ≡ failed_allocations_of
+      history old
   pub running : result ≢ Err faults.Device → is_stopped new ≡ is_stopped old
   -- a crash at any moment of the call leaves the collections as they were before the turn or as
   -- they are after it
   pub any_moment : IsRunning old → LeavesOnly (disk_history history old) (disk_history history new)
-      (λ image. Holds image (turn_start old) ⊎ Holds image (world old).collections)
+      (λ image. HoldsCollections image (turn_start old) ⊎ HoldsCollections image
+      (world old).collections)
   -- where the turn is undone, it leaves them as they were before, at every moment
   pub kept : IsRunning old → result ≢ Err faults.Device
       → OnErr result (LeavesOnly (disk_history history old) (disk_history history new)
-      (λ image. Holds image (turn_start old)))
+      (λ image. HoldsCollections image (turn_start old)))
   -- at Ok it leaves them as they are after it, and nothing else
   pub acknowledged : IsRunning old
       → OnOk result
-      (LeavesNow (disk_history history new) (λ image. Holds image (world old).collections))
+      (CrashLeaves (disk_history history new)
+      (λ image. HoldsCollections image (world old).collections))
   -- Device comes only where a write or a sync had failed before the call, or failed in it
   pub device : result ≡ Err faults.Device → KeepsWord (disk_history history new)
       → (is_stopped old ≡ true)
@@ -61,5 +65,5 @@ pub record Commits {D : Type 0} (history : D → History) (result : Result (Unit
   -- where the commands changed nothing, there is nothing to write
   pub quiet : has_changes old ≡ false
       → (result ≡ Ok tt) × (file_of new ≡ file_of old)
-  pub rests : has_changes new ≡ false
+  pub clean : has_changes new ≡ false
   pub rested : are_untouched (world new).cursors ≡ true

@@ -37,8 +37,8 @@ abbrev pub generation : {D : Type 0} → Engine D → ℕ
 generation engine = views.generation (file_of engine)
 
 -- how often a page was asked for and none was free
-abbrev pub full_takes_of : {D : Type 0} → (D → History) → Engine D → ℕ
-full_takes_of history engine = (views.pages_of history (file_of engine)).full_takes
+abbrev pub failed_allocations_of : {D : Type 0} → (D → History) → Engine D → ℕ
+failed_allocations_of history engine = (views.pages_of history (file_of engine)).failed_allocations
 
 -- how often a read of the disk has failed, as far as a u64 counts
 abbrev pub failed_reads_of : {D : Type 0} → (D → History) → Engine D → ℕ

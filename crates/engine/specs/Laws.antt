@@ -6,7 +6,7 @@ use Rattle.database_model.specs.World.{World, new_world}
 use Rattle.entries.specs.State.{Collection}
 use Rattle.collections.specs.Calls.{IsOfFile}
 use Rattle.database_model.specs.Lawful.{IsLawful}
-use Rattle.opening.specs.Holding.{Holds}
+use Rattle.opening.specs.Holding.{HoldsCollections}
 use Rattle.path.specs.declared.refusal.Refusal.{Refusal}
 use Rattle.path.specs.declared.refusal.Refusal.TheVariants as refusals
 use Rattle.command_model.specs.Command.{Command, ping, insert, find}
@@ -30,11 +30,13 @@ StaysLawful = (world : World) (connection : ℕ) (body : Result Pairs BsonFault)
 -- an image whose root sectors are zeros holds no collection
 abbrev pub ZerosHoldNothing : Type 0
 ZerosHoldNothing =
-    (image : ℕ → List ℕ) → image 0 ≡ replicate 512 0 → image 1 ≡ replicate 512 0 → Holds image []
+    (image : ℕ → List ℕ) → image 0 ≡ replicate 512 0 → image 1 ≡ replicate 512 0
+    → HoldsCollections image []
 
 -- an image holds one list of collections at most
 abbrev pub HoldsOne : Type 0
-HoldsOne = (image : ℕ → List ℕ) (a b : List Collection) → Holds image a → Holds image b → a ≡ b
+HoldsOne = (image : ℕ → List ℕ) (a b : List Collection) → HoldsCollections image a
+    → HoldsCollections image b → a ≡ b
 
 -- a command that only reads, or one that is refused before it runs
 abbrev pub OnlyReads : Result Command Refusal → Type 0

@@ -3,15 +3,15 @@ use Rattle.std.specs.Prelude.{◌≡◌, List, Result, MatchResult}
 use Rattle.page.specs.History.{History, KeepsWord}
 use Rattle.path.specs.declared.refusal.Refusal.{Refusal}
 use Rattle.entries.specs.State.{Collection}
-use Rattle.collections.specs.Calls.{GoesFrom, HasReadCause}
-use Rattle.engine.specs.Durable.{disk_history, file_of, full_takes_of, has_changes, IsSound}
+use Rattle.collections.specs.Calls.{ExtendsTurn, HasReadCause}
+use Rattle.engine.specs.Durable.{disk_history, file_of, failed_allocations_of, has_changes, IsSound}
 use Rattle.engine.specs.View.{world}
 use Rattle.engine.specs.declared.engine.Engine.{Engine}
 
 -- The collections, the cursors and what the turn has changed are as they were.
 pub record LeavesAll {D : Type 0} (history : D → History) (old new : Engine D) : Type 0 where
   pub sound : IsSound history new
-  pub goes : GoesFrom history (file_of old) (file_of new)
+  pub continues : ExtendsTurn history (file_of old) (file_of new)
   pub told : new.told.value ≡ old.told.value
   pub cursors : new.cursors ≡ old.cursors
   pub changes : has_changes new ≡ has_changes old
@@ -19,12 +19,12 @@ pub record LeavesAll {D : Type 0} (history : D → History) (old new : Engine D)
 -- The file was read, and nothing else was done.
 pub record OnlyReads {D : Type 0} (history : D → History) (old new : Engine D) : Type 0 where
   pub sound : IsSound history new
-  pub goes : GoesFrom history (file_of old) (file_of new)
+  pub continues : ExtendsTurn history (file_of old) (file_of new)
   pub told : new.told.value ≡ old.told.value
   pub cursors : new.cursors ≡ old.cursors
   pub changes : has_changes new ≡ has_changes old
   -- no page was asked for
-  pub takes : full_takes_of history new ≡ full_takes_of history old
+  pub takes : failed_allocations_of history new ≡ failed_allocations_of history old
 
 -- Something was looked up. While the disk keeps its word, the answer is right for the collections,
 -- or the refusal has its cause.

@@ -6,7 +6,7 @@ use Rattle.page.specs.History.{History, KeepsWord}
 use Rattle.path.specs.declared.refusal.Refusal.{Refusal}
 use Rattle.engine.specs.Continuing.{Continues}
 use Rattle.collections.specs.Calls.{HasReadCause}
-use Rattle.engine.specs.Durable.{disk_history, file_of, full_takes_of, has_changes, IsSound}
+use Rattle.engine.specs.Durable.{disk_history, file_of, failed_allocations_of, has_changes, IsSound}
 use Rattle.engine.specs.Durable.{KeepsChanges}
 use Rattle.database_model.specs.Step.{answered}
 use Rattle.pinned_cursors.specs.First.{OrNone}
@@ -40,12 +40,13 @@ DoesPlanned history planned (Err e) old new = (world new ≡ world old)
 -- A command was run. While the disk keeps its word, it did what was planned, or was refused. On any
 -- disk one that is refused leaves the world as it was, and whatever it did, a turn that had changes
 -- before has them still.
-pub record Performs {D : Type 0} (history : D → History) (planned : Result (World × Pairs) Refusal)
+pub record RunsCommand {D : Type 0} (history : D → History)
+    (planned : Result (World × Pairs) Refusal)
     (result : Result Pairs Refusal) (old new : Engine D) : Type 0 where
   pub sound : IsSound history new
-  pub goes : Continues history old new
+  pub continues : Continues history old new
   pub start : turn_start new ≡ turn_start old
-  pub does : KeepsWord (disk_history history new) → DoesPlanned history planned result old new
+  pub as_planned : KeepsWord (disk_history history new) → DoesPlanned history planned result old new
   pub left : OnErr result (world new ≡ world old)
   pub refused : OnErr result (has_changes new ≡ has_changes old)
   pub keeps : KeepsChanges old new
@@ -60,25 +61,25 @@ DoesReading history planned (Err e) old new = (world new ≡ world old)
 
 -- A command was run that only reads. On any disk it leaves nothing for the commit and asks for no
 -- page, so that none is free is no cause of a refusal.
-pub record PerformsReading {D : Type 0} (history : D → History)
+pub record RunsReadingCommand {D : Type 0} (history : D → History)
     (planned : Result (World × Pairs) Refusal) (result : Result Pairs Refusal) (old new : Engine D)
     : Type 0 where
-  pub performs : Performs history planned result old new
+  pub performs : RunsCommand history planned result old new
   pub changes : has_changes new ≡ has_changes old
-  pub takes : full_takes_of history new ≡ full_takes_of history old
-  pub does : KeepsWord (disk_history history new) → DoesReading history planned result old new
+  pub takes : failed_allocations_of history new ≡ failed_allocations_of history old
+  pub as_planned : KeepsWord (disk_history history new) → DoesReading history planned result old new
 
 -- The engine is as it was: its disk was read at most, and pins came and went.
 pub record StaysAlike {D : Type 0} (history : D → History) (old new : Engine D) : Type 0 where
   pub sound : IsSound history new
-  pub goes : Continues history old new
+  pub continues : Continues history old new
   pub told : new.told.value ≡ old.told.value
   pub cursors : new.cursors ≡ old.cursors
   pub changes : has_changes new ≡ has_changes old
-  pub takes : full_takes_of history new ≡ full_takes_of history old
+  pub takes : failed_allocations_of history new ≡ failed_allocations_of history old
 
 -- The command was run in one way, or not in that way: then all is as it was.
 abbrev pub MayPerform : {D : Type 0} → (D → History) → Result (World × Pairs) Refusal
     → Result (Option Pairs) Refusal → Engine D → Engine D → Type 0
 MayPerform history planned result old new =
-    OrNone (λ r. PerformsReading history planned r old new) (StaysAlike history old new) result
+    OrNone (λ r. RunsReadingCommand history planned r old new) (StaysAlike history old new) result

@@ -30,7 +30,7 @@ use Rattle.engine.specs.declared.engine.Engine.{Engine}
 use Rattle.statements.specs.declared.statements.Ran.{Ran}
 use Rattle.statements.specs.declared.statements.Tally.{Tally}
 use Rattle.statements.specs.declared.statements.Write.{Write}
-use Rattle.engine.specs.declared.updates.Meant.{Meant}
+use Rattle.engine.specs.declared.updates.Candidates.{Candidates}
 
 -- the number of a collection that is made is one of a collection's
 abbrev pub HasNumber : Bool → ℕ → Type 0
@@ -45,8 +45,8 @@ ChangesFirst (s ∷ []) = (s.multi ≡ false) × (made_of s ≡ [])
 ChangesFirst (s ∷ t ∷ ss) = ⊥
 
 -- So many first ones of the documents that the statements may mean are enough: all, or one.
-abbrev pub Suffices : List UpdateStatement → ℕ → Type 0
-Suffices ss most = (most ≡ 2 ^ 64 - 1) ⊎ ((most ≡ 1) × ChangesFirst ss)
+abbrev pub FirstAreEnough : List UpdateStatement → ℕ → Type 0
+FirstAreEnough ss most = (most ≡ 2 ^ 64 - 1) ⊎ ((most ≡ 1) × ChangesFirst ss)
 
 -- of these documents, all that the statements may mean, or the first where it is enough
 abbrev pub AreMeantOf : List UpdateStatement → List Pairs → List Pairs → Type 0
@@ -55,13 +55,14 @@ AreMeantOf ss ds found = (found ≡ filter (is_meant ss) ds)
 
 -- These are the documents that the statements may mean in a collection that is there, or in one
 -- that is missing.
-abbrev pub MeansIn : Option Collection → List Collection → List UpdateStatement → Meant → Type 0
+abbrev pub MeansIn : Option Collection → List Collection → List UpdateStatement → Candidates
+    → Type 0
 MeansIn (Some c) now ss m = (m.is_new ≡ false) × (c.number ≡ m.number)
     × AreMeantOf ss c.documents m.documents.items
 MeansIn None now ss m = (m.documents.items ≡ []) × (m.is_new ≡ makes_any ss)
     × (m.is_new ≡ true → (length now < 1000) × (m.number ≡ unused now))
 
-abbrev pub IsMeant : List Collection → List ℕ → List UpdateStatement → Meant → Type 0
+abbrev pub IsMeant : List Collection → List ℕ → List UpdateStatement → Candidates → Type 0
 IsMeant now name ss m = MeansIn (find_collection now name) now ss m
 
 -- a statement makes a document, and a collection for it would be one too many

@@ -20,8 +20,8 @@ pub record IsTaken (now : List Collection) (name : List ℕ) (deletions : List D
 
 -- Of the documents that a statement matches, in their order, the first ones up to this number are
 -- enough, unless that is the greatest and they are as many: of them the same is taken as of all.
-abbrev pub Suffices : List Deletion → ℕ → Type 0
-Suffices deletions most = (ds : List Pairs)
+abbrev pub FirstAreEnough : List Deletion → ℕ → Type 0
+FirstAreEnough deletions most = (ds : List Pairs)
     → let found = take most (filter (is_deleted deletions) ds) in length found < 2 ^ 64 - 1
     → all_taken deletions found ≡ all_taken deletions ds
 

@@ -3,7 +3,7 @@ use Rattle.std.specs.Prelude.{◌≡◌, ◌⊎◌, ◌<◌, ◌≤◌, ◌-◌,
 use Rattle.page.specs.History.{History}
 use Rattle.path.specs.declared.refusal.Refusal.{Refusal}
 use Rattle.path.specs.declared.refusal.Refusal.TheVariants as refusals
-use Rattle.engine.specs.Durable.{disk_history, failed_reads_of, full_takes_of}
+use Rattle.engine.specs.Durable.{disk_history, failed_reads_of, failed_allocations_of}
 use Rattle.engine.specs.declared.check_fault.CheckFault.{CheckFault}
 use Rattle.engine.specs.declared.check_fault.CheckFault.TheVariants as faults
 use Rattle.engine.specs.declared.engine.Engine.{Engine}
@@ -12,7 +12,7 @@ use Rattle.engine.specs.declared.troubles.Troubles.{Troubles}
 -- no read failed and no page was wanted in vain, as far as these counts tell
 abbrev pub AreNoMore : Troubles → Troubles → Type 0
 AreNoMore before now =
-    (now.failed_reads ≤ before.failed_reads) × (now.full_takes ≤ before.full_takes)
+    (now.failed_reads ≤ before.failed_reads) × (now.failed_allocations ≤ before.failed_allocations)
 
 -- What a command is refused with: what it met; or, in the place of want of memory, that a read
 -- failed meanwhile, or that no page was free.
@@ -20,7 +20,7 @@ abbrev pub Tells : Refusal → Troubles → Troubles → Refusal → Type 0
 Tells met before now told =
     ((told ≡ met) × (met ≡ refusals.OutOfMemory → AreNoMore before now))
     ⊎ (((told ≡ refusals.StorageFailed) × (before.failed_reads < now.failed_reads))
-    ⊎ ((told ≡ refusals.Full) × (before.full_takes < now.full_takes)))
+    ⊎ ((told ≡ refusals.Full) × (before.failed_allocations < now.failed_allocations)))
 
 -- Why a look through a file ended: what it met; or, in the place of want of memory, that a read
 -- failed meanwhile.
@@ -38,4 +38,4 @@ MetNoFailure history old new =
 -- Neither that, nor was a page asked for in vain.
 pub record MetNoTrouble {D : Type 0} (history : D → History) (old new : Engine D) : Type 0 where
   pub reads : MetNoFailure history old new
-  pub takes : full_takes_of history new ≡ full_takes_of history old
+  pub takes : failed_allocations_of history new ≡ failed_allocations_of history old

@@ -11,7 +11,8 @@ use Rattle.engine.specs.declared.engine.Engine.{Engine}
 
 -- The file was read, and nothing else was done. While the disk keeps its word, the answer is right,
 -- or the refusal is, or it has its cause.
-pub record Tries {D X : Type 0} (history : D → History) (IsRight : X → Type 0) (IsRefused : Refusal
+pub record MayRefuse {D X : Type 0} (history : D → History) (IsRight : X → Type 0)
+    (IsRefused : Refusal
     → Type 0)
     (result : Result X Refusal) (old new : Engine D) : Type 0 where
   pub reads : OnlyReads history old new
@@ -21,7 +22,7 @@ pub record Tries {D X : Type 0} (history : D → History) (IsRight : X → Type 
 
 -- The same of what not all collections have: the answer is right for what was asked for, or the
 -- refusal is, where this is so of it.
-pub record TriesOf {D A X : Type 0} (history : D → History) (Is : List Collection → A → Type 0)
+pub record MayRefuseOf {D A X : Type 0} (history : D → History) (Is : List Collection → A → Type 0)
     (IsRight : List Collection → A → X → Type 0) (IsRefused : A → Refusal → Type 0)
     (result : Result X Refusal) (old new : Engine D) : Type 0 where
   pub reads : OnlyReads history old new

@@ -5,7 +5,7 @@ use Rattle.cursors.specs.Held.{table_of}
 use Rattle.database_model.specs.World.{World, CursorTable}
 use Rattle.database_model.specs.Refusals.{refusal_reply}
 use Rattle.entries.specs.State.{Collection}
-use Rattle.opening.specs.Known.{Known}
+use Rattle.opening.specs.TurnStates.{TurnStates}
 use Rattle.replies.specs.View.{answer_of}
 use Rattle.engine.specs.declared.engine.Reply.{Reply}
 use Rattle.engine.specs.declared.engine.Reply.TheVariants as replies
@@ -20,7 +20,7 @@ abbrev pub IsRefusal : Reply → Type 0
 IsRefusal (replies.Done a) = ⊥
 IsRefusal (replies.Refused r) = Unit {0}
 
-abbrev pub world_of : Known → CursorTable → World
+abbrev pub world_of : TurnStates → CursorTable → World
 world_of known cursors =
     record { collections = known.now; cursors = cursors.list; next = cursors.next }
 

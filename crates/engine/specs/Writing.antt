@@ -4,7 +4,7 @@ use Rattle.page.specs.History.{History, KeepsWord}
 use Rattle.path.specs.declared.refusal.Refusal.{Refusal}
 use Rattle.entries.specs.State.{Collection}
 use Rattle.collections.specs.State.{State}
-use Rattle.collections.specs.Calls.{GoesFrom, HasWriteCause, IsOfFile}
+use Rattle.collections.specs.Calls.{ExtendsTurn, HasWriteCause, IsOfFile}
 use Rattle.collections.specs.View.{disk_history}
 use Rattle.engine.specs.Durable as durable
 use Rattle.engine.specs.Durable.{file_of, has_changes, IsSound, KeepsChanges}
@@ -24,7 +24,7 @@ FileCause history old new planned e =
 pub record Writes {D : Type 0} (history : D → History) (after : List Collection)
     (result : Result (Unit {0}) Refusal) (old new : Engine D) : Type 0 where
   pub sound : IsSound history new
-  pub goes : GoesFrom history (file_of old) (file_of new)
+  pub continues : ExtendsTurn history (file_of old) (file_of new)
   pub start : turn_start new ≡ turn_start old
   pub cursors : new.cursors ≡ old.cursors
   pub ok : OnOk result ((world new).collections ≡ after)
@@ -53,13 +53,15 @@ Becomes history planned (Err e) old new = ((world new).collections ≡ (world ol
 -- The collections were changed. While the disk keeps its word, they became those that were planned,
 -- or the change was refused. On any disk a change that is refused leaves them as they were, and a
 -- turn that had changes before has them still.
-pub record Makes {D : Type 0} (history : D → History) (planned : Result (List Collection) Refusal)
+pub record ChangesCollections {D : Type 0} (history : D → History)
+    (planned : Result (List Collection) Refusal)
     (result : Result (Unit {0}) Refusal) (old new : Engine D) : Type 0 where
   pub sound : IsSound history new
-  pub goes : GoesFrom history (file_of old) (file_of new)
+  pub continues : ExtendsTurn history (file_of old) (file_of new)
   pub start : turn_start new ≡ turn_start old
   pub cursors : new.cursors ≡ old.cursors
-  pub does : KeepsWord (durable.disk_history history new) → Becomes history planned result old new
+  pub as_planned : KeepsWord (durable.disk_history history new)
+      → Becomes history planned result old new
   pub left : OnErr result ((world new).collections ≡ (world old).collections)
   pub refused : OnErr result (has_changes new ≡ has_changes old)
   pub keeps : KeepsChanges old new

@@ -7,7 +7,7 @@ ghost use Rattle.database_model.specs.Cursors.{batch_of, first_batch};
 ghost use Rattle.engine.specs.Durable.{has_changes, IsSound};
 ghost use Rattle.database_model.specs.Lawful.{IsWithin};
 ghost use Rattle.engine.specs.Looking.{Looks};
-ghost use Rattle.engine.specs.Performing.{PerformsReading};
+ghost use Rattle.engine.specs.Performing.{RunsReadingCommand};
 ghost use Rattle.pinned_cursors.specs.Turns.{Releases};
 ghost use Rattle.queries.specs.Piping.{Pipes};
 ghost use Rattle.replies.specs.View.{IsSendable, Runs};
@@ -54,7 +54,7 @@ impl<D: Disk> Engine<D> {
     ) -> Result<SpelledDocument, Refusal>
         requires short { length namespace.now ≤ 255 }
         requires sound { IsSound D.history self.old }
-        ensures performs { PerformsReading D.history
+        ensures performs { RunsReadingCommand D.history
             (run_aggregate (world self.old) connection (record {
               namespace = namespace.now;
               pipeline = pipeline_of pipeline.now;

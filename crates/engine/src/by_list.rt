@@ -7,7 +7,7 @@ ghost use Rattle.database_model.specs.Find.{given, query_result, run_find};
 ghost use Rattle.database_model.specs.Lawful.{IsWithin};
 ghost use Rattle.database_model.specs.World.{documents_of};
 ghost use Rattle.engine.specs.Durable.{disk_history, file_of, has_changes, IsSound};
-ghost use Rattle.engine.specs.Performing.{PerformsReading};
+ghost use Rattle.engine.specs.Performing.{RunsReadingCommand};
 ghost use Rattle.engine.specs.View.{world};
 ghost use Rattle.engine.specs.Walking.{AreIdsAsked, AreOf};
 ghost use Rattle.index.specs.View.{texts_of};
@@ -23,7 +23,7 @@ use bson::SpelledDocument;
 use commands::Query;
 use cursors::Rest;
 use entries::Catalogued;
-use opening::Told;
+use opening::GhostState;
 use page::Disk;
 use path::Refusal;
 use pinned_cursors::{FirstAsked, ListLeft, give_first, open_listed};
@@ -42,7 +42,7 @@ fn rest_of<'a>(projection: &'a Projection, documents: &'a [SpelledDocument]) -> 
 }
 
 /// What a query gives of the documents of the collection of a name.
-pub(crate) fn all_asked<'a>(told: &'a Told, namespace: &'a str, query: &'a Query) -> Rest
+pub(crate) fn all_asked<'a>(told: &'a GhostState, namespace: &'a str, query: &'a Query) -> Rest
     ensures { result.value
         ≡ query_result query.now (documents_of told.now.value.now namespace.now) }
 {
@@ -60,7 +60,7 @@ impl<D: Disk> Engine<D> {
     ) -> Result<SpelledDocument, Refusal>
         requires short { length namespace.now ≤ 255 }
         requires sound { IsSound D.history self.old }
-        ensures performs { PerformsReading D.history
+        ensures performs { RunsReadingCommand D.history
             (run_find (world self.old) connection
             (record { namespace = namespace.now; query = query.now; batch_size = Some most }))
             result self.old self.new }
@@ -97,7 +97,7 @@ impl<D: Disk> Engine<D> {
         requires there { KeepsWord (disk_history D.history self.old)
             → AreIdsAsked (world self.old).collections namespace.now home.now query.now
             (texts_of texts.items) }
-        ensures performs { PerformsReading D.history
+        ensures performs { RunsReadingCommand D.history
             (run_find (world self.old) connection
             (record { namespace = namespace.now; query = query.now; batch_size = Some most }))
             result self.old self.new }

@@ -12,7 +12,7 @@ ghost use Rattle.opening.specs.Loading.{named_as};
 use crate::check_fault::CheckFault;
 use crate::engine::Engine;
 use crate::troubles::{told_fault, troubles_of};
-use opening::{Named, Told, load_file};
+use opening::{GhostState, Named, load_file};
 use page::Disk;
 
 /// How much a file holds.
@@ -71,7 +71,7 @@ impl<D: Disk> Engine<D> {
         }
         let generation = self.file.generation();
         let pages = self.file.count_pages()?;
-        let mut told = Told::of(&());
+        let mut told = GhostState::of(&());
         let loading = load_file(self.alloc, &mut self.file, &mut told)?;
         let Some(indexes) = count_indexes(&loading.names) else {
             return Err(CheckFault::Memory);

@@ -6,7 +6,7 @@ ghost use Rattle.database_model.specs.Count.{run_count};
 ghost use Rattle.engine.specs.Durable.{has_changes, IsSound};
 ghost use Rattle.database_model.specs.Find.{matching, window};
 ghost use Rattle.engine.specs.Looking.{Looks};
-ghost use Rattle.engine.specs.Performing.{PerformsReading};
+ghost use Rattle.engine.specs.Performing.{RunsReadingCommand};
 ghost use Rattle.replies.specs.View.{IsSendable};
 ghost use Rattle.engine.specs.View.{world};
 ghost use Rattle.database_model.specs.World.{documents_of};
@@ -51,7 +51,7 @@ impl<D: Disk> Engine<D> {
         limit: usize,
     ) -> Result<Document, Refusal>
         requires sound { IsSound D.history self.old }
-        ensures performs { PerformsReading D.history
+        ensures performs { RunsReadingCommand D.history
             (run_count (world self.old)
             (record { namespace = namespace.now; filter = filter.now; skip = skip; limit = limit }))
             result self.old self.new }

@@ -4,10 +4,10 @@ ghost use Rattle.std.specs.Prelude.{◌≡◌, ◌≤◌, IfErr, IfOk, length};
 ghost use Rattle.database_model.specs.Create.{created, run_create};
 ghost use Rattle.page.specs.History.{KeepsWord};
 ghost use Rattle.engine.specs.Durable.{disk_history, has_changes, IsSound};
-ghost use Rattle.engine.specs.Performing.{Performs};
+ghost use Rattle.engine.specs.Performing.{RunsCommand};
 ghost use Rattle.replies.specs.View.{IsSendable};
 ghost use Rattle.engine.specs.View.{world};
-ghost use Rattle.engine.specs.Writing.{Makes};
+ghost use Rattle.engine.specs.Writing.{ChangesCollections};
 
 use crate::engine::Engine;
 use bson::Document;
@@ -22,7 +22,7 @@ impl<D: Disk> Engine<D> {
     pub(crate) fn create(&mut self, namespace: &str) -> Result<Document, Refusal>
         requires short { length namespace.now ≤ 255 }
         requires sound { IsSound D.history self.old }
-        ensures performs { Performs D.history
+        ensures performs { RunsCommand D.history
             (run_create (world self.old) (record { namespace = namespace.now }))
             result self.old self.new }
         ensures has_changes { KeepsWord (disk_history D.history self.new)
@@ -39,7 +39,7 @@ impl<D: Disk> Engine<D> {
     fn make_collection(&mut self, namespace: &str) -> Result<(), Refusal>
         requires short { length namespace.now ≤ 255 }
         requires sound { IsSound D.history self.old }
-        ensures { Makes D.history (created (world self.old).collections namespace.now)
+        ensures { ChangesCollections D.history (created (world self.old).collections namespace.now)
             result self.old self.new }
     {
         if self.number_of(namespace)?.is_some() {

@@ -6,11 +6,11 @@ ghost use Rattle.command_model.specs.NewIndex.{IsShortNewIndex};
 ghost use Rattle.database_model.specs.CreateIndexes.{indexed, run_create_indexes};
 ghost use Rattle.engine.specs.Durable.{disk_history, has_changes, IsSound};
 ghost use Rattle.engine.specs.Indexing.{ArePlanned};
-ghost use Rattle.engine.specs.Performing.{Performs};
-ghost use Rattle.engine.specs.Trying.{Tries};
+ghost use Rattle.engine.specs.Performing.{RunsCommand};
+ghost use Rattle.engine.specs.Trying.{MayRefuse};
 ghost use Rattle.replies.specs.View.{IsSendable};
 ghost use Rattle.engine.specs.View.{world};
-ghost use Rattle.engine.specs.Writing.{Makes};
+ghost use Rattle.engine.specs.Writing.{ChangesCollections};
 
 use crate::engine::Engine;
 use bson::Document;
@@ -39,7 +39,7 @@ impl<D: Disk> Engine<D> {
         requires short { length namespace.now ≤ 255 }
         requires limits { All IsShortNewIndex indexes.now }
         requires sound { IsSound D.history self.old }
-        ensures performs { Performs D.history
+        ensures performs { RunsCommand D.history
             (run_create_indexes (world self.old)
             (record { namespace = namespace.now; indexes = indexes.now }))
             result self.old self.new }
@@ -63,7 +63,7 @@ impl<D: Disk> Engine<D> {
     ) -> Result<PlannedIndexes, Refusal>
         requires short { length namespace.now ≤ 255 }
         requires sound { IsSound D.history self.old }
-        ensures tries { Tries D.history
+        ensures tries { MayRefuse D.history
             (ArePlanned (world self.old).collections namespace.now indexes.now)
             (λ e. indexed (world self.old).collections namespace.now indexes.now ≡ Err e)
             result self.old self.new }
@@ -94,7 +94,7 @@ impl<D: Disk> Engine<D> {
         requires sound { IsSound D.history self.old }
         requires planned { KeepsWord (disk_history D.history self.old)
             → ArePlanned (world self.old).collections namespace.now indexes.now planned.now }
-        ensures makes { Makes D.history
+        ensures makes { ChangesCollections D.history
             (indexed (world self.old).collections namespace.now indexes.now)
             result self.old self.new }
         ensures has_changes { planned.now.is_new ≡ false → planned.now.after ≤ planned.now.before

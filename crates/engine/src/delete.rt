@@ -5,9 +5,9 @@ ghost use Rattle.database_model.specs.Delete.{run_delete};
 ghost use Rattle.engine.specs.Looking.{Looks};
 ghost use Rattle.page.specs.History.{KeepsWord};
 ghost use Rattle.engine.specs.Durable.{disk_history, has_changes, IsSound};
-ghost use Rattle.engine.specs.Performing.{Performs};
-ghost use Rattle.engine.specs.Removing.{IsTaken, Suffices, deleted};
-ghost use Rattle.engine.specs.Writing.{Makes};
+ghost use Rattle.engine.specs.Performing.{RunsCommand};
+ghost use Rattle.engine.specs.Removing.{IsTaken, FirstAreEnough, deleted};
+ghost use Rattle.engine.specs.Writing.{ChangesCollections};
 ghost use Rattle.replies.specs.View.{IsSendable};
 ghost use Rattle.engine.specs.View.{world};
 
@@ -26,7 +26,7 @@ use std::alloc::Global;
 /// So many of the documents that statements match, in ascending order of `_id`, are enough: one, where a
 /// single statement takes the first one.
 fn enough(deletions: &[Deletion]) -> usize
-    ensures { Suffices deletions.now result }
+    ensures { FirstAreEnough deletions.now result }
 {
     match deletions {
         [only] if only.only_first => 1,
@@ -63,7 +63,7 @@ impl<D: Disk> Engine<D> {
         deletions: &[Deletion],
     ) -> Result<Document, Refusal>
         requires sound { IsSound D.history self.old }
-        ensures performs { Performs D.history
+        ensures performs { RunsCommand D.history
             (run_delete (world self.old)
             (record { namespace = namespace.now; deletions = deletions.now }))
             result self.old self.new }
@@ -107,7 +107,7 @@ impl<D: Disk> Engine<D> {
         requires sound { IsSound D.history self.old }
         requires taken { KeepsWord (disk_history D.history self.old)
             → IsTaken (world self.old).collections namespace.now deletions.now taken.now }
-        ensures makes { Makes D.history
+        ensures makes { ChangesCollections D.history
             (Ok (deleted (world self.old).collections namespace.now deletions.now))
             result self.old self.new }
         ensures has_changes { taken.now.removed.items ≡ []

@@ -6,11 +6,11 @@ ghost use Rattle.engine.specs.Dropping.{HasStepped, IsEmptying, IsFilled, IsLeft
 ghost use Rattle.engine.specs.Looking.{LooksOf};
 ghost use Rattle.page.specs.History.{KeepsWord};
 ghost use Rattle.engine.specs.Durable.{disk_history, has_changes, IsRunning, IsSound};
-ghost use Rattle.engine.specs.Performing.{Performs};
+ghost use Rattle.engine.specs.Performing.{RunsCommand};
 ghost use Rattle.engine.specs.TakingOut.{HasHome};
 ghost use Rattle.replies.specs.View.{IsSendable};
 ghost use Rattle.engine.specs.View.{world};
-ghost use Rattle.engine.specs.Writing.{Makes};
+ghost use Rattle.engine.specs.Writing.{ChangesCollections};
 
 use crate::engine::Engine;
 use crate::removing::note_removed;
@@ -28,7 +28,7 @@ impl<D: Disk> Engine<D> {
     pub(crate) fn drop_collection(&mut self, namespace: &str) -> Result<Document, Refusal>
         requires short { length namespace.now ≤ 255 }
         requires sound { IsSound D.history self.old }
-        ensures performs { Performs D.history
+        ensures performs { RunsCommand D.history
             (run_drop (world self.old) (record { namespace = namespace.now }))
             result self.old self.new }
         ensures has_changes { KeepsWord (disk_history D.history self.new)
@@ -50,7 +50,7 @@ impl<D: Disk> Engine<D> {
         requires sound { IsSound D.history self.old }
         requires home { KeepsWord (disk_history D.history self.old)
             → HasHome (world self.old).collections namespace.now home.now }
-        ensures { Makes D.history (dropped (world self.old).collections namespace.now)
+        ensures { ChangesCollections D.history (dropped (world self.old).collections namespace.now)
             result self.old self.new }
     {
         let mut edits = Edits::new(self.alloc);

@@ -5,11 +5,11 @@ ghost use Rattle.commands.specs.View.{dropped_of};
 ghost use Rattle.page.specs.History.{KeepsWord};
 ghost use Rattle.database_model.specs.DropIndexes.{index_dropped, left_by, remaining, run_drop_indexes};
 ghost use Rattle.engine.specs.Durable.{disk_history, has_changes, IsSound};
-ghost use Rattle.engine.specs.Performing.{Performs};
+ghost use Rattle.engine.specs.Performing.{RunsCommand};
 ghost use Rattle.engine.specs.TakingOut.{HasHome};
 ghost use Rattle.replies.specs.View.{IsSendable};
 ghost use Rattle.engine.specs.View.{world};
-ghost use Rattle.engine.specs.Writing.{Makes};
+ghost use Rattle.engine.specs.Writing.{ChangesCollections};
 ghost use Rattle.collections.specs.Reading.{IsWithinLimits};
 
 use crate::engine::Engine;
@@ -30,7 +30,7 @@ impl<D: Disk> Engine<D> {
     ) -> Result<Document, Refusal>
         requires short { length namespace.now ≤ 255 }
         requires sound { IsSound D.history self.old }
-        ensures performs { Performs D.history
+        ensures performs { RunsCommand D.history
             (run_drop_indexes (world self.old)
             (record { namespace = namespace.now; indexes = dropped_of dropped.now }))
             result self.old self.new }
@@ -62,7 +62,7 @@ impl<D: Disk> Engine<D> {
             ≡ Ok (remaining (dropped_of dropped.now) home.indexes.items) }
         requires home { KeepsWord (disk_history D.history self.old)
             → HasHome (world self.old).collections namespace.now home }
-        ensures makes { Makes D.history
+        ensures makes { ChangesCollections D.history
             (index_dropped (world self.old).collections namespace.now (dropped_of dropped.now))
             result self.old self.new }
         ensures has_changes { length home.indexes.items

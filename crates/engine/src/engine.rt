@@ -7,20 +7,20 @@ ghost use Rattle.collections.specs.Calls.{HasReadCause};
 ghost use Rattle.collections.specs.Marks.{Undoes};
 ghost use Rattle.collections.specs.Opening.{HasLimit};
 ghost use Rattle.cursors.specs.Changes.{all_at_rest};
-ghost use Rattle.engine.specs.Committing.{Commits};
+ghost use Rattle.engine.specs.Committing.{CommitsTurn};
 ghost use Rattle.engine.specs.Continuing.{Continues};
 ghost use Rattle.engine.specs.Laws.{BodyNeedsNoDisk, BodyOnlyReads, ForMemory, NeedsNoDisk, OnlyReads};
-ghost use Rattle.engine.specs.Opening.{IsOpened};
-ghost use Rattle.opening.specs.Refusing.{IsRefused};
+ghost use Rattle.engine.specs.Opening.{IsEngineOpened};
+ghost use Rattle.opening.specs.Refusing.{IsFileRefused};
 ghost use Rattle.pinned_cursors.specs.Tied.{AreTied};
-ghost use Rattle.engine.specs.Performing.{IsAdministrative, Performs, PerformsReading};
+ghost use Rattle.engine.specs.Performing.{IsAdministrative, RunsCommand, RunsReadingCommand};
 ghost use Rattle.database_model.specs.World.{are_untouched, after_commit, after_undo, forget};
 ghost use Rattle.replies.specs.View.{answer_of, outcome_of, IsSendable, Runs};
 ghost use Rattle.engine.specs.View.{world, turn_start, reply_of, IsRefusal};
 ghost use Rattle.command_model.specs.Command.{IsBounded};
 ghost use Rattle.commands.specs.View.{command_read};
 ghost use Rattle.database_model.specs.Step.{Answers, ChangesNone, WroteNothing, read_and_run, run};
-ghost use Rattle.engine.specs.Durable.{disk_history, failed_reads_of, file_of, full_takes_of, generation, has_changes, is_stopped, IsSound, KeepsChanges};
+ghost use Rattle.engine.specs.Durable.{disk_history, failed_reads_of, file_of, failed_allocations_of, generation, has_changes, is_stopped, IsSound, KeepsChanges};
 ghost use Rattle.engine.specs.Troubles.{MetNoTrouble};
 ghost use Rattle.engine.specs.Writing.{FileCause};
 ghost use Rattle.path.specs.declared.refusal.Refusal.TheVariants as refusals;
@@ -30,7 +30,7 @@ use bson::Document;
 use collections::Collections as FileCollections;
 use commands::Command;
 use cursors::{Cursors, Ends};
-use opening::{Told, open_file};
+use opening::{GhostState, open_file};
 use page::Disk;
 use path::Refusal;
 use pinned_cursors::end_all;
@@ -54,7 +54,7 @@ pub struct Engine<D: Disk> {
     pub(crate) alloc: Global,
     pub(crate) cursors: Cursors,
     pub(crate) file: FileCollections<D>,
-    pub(crate) told: Told,
+    pub(crate) told: GhostState,
     /// Whether a command of the turn has changed something.
     pub(crate) is_changed: bool,
 }
@@ -80,9 +80,9 @@ impl<D: Disk> Engine<D> {
         disk: D,
         config: Config,
     ) -> Result<Engine<TrustedDisk<D>>, (D, OpenFault)>
-        ensures opened { IfOk result (IsOpened D.history disk) }
+        ensures opened { IfOk result (IsEngineOpened D.history disk) }
         ensures limit { IfOk result (λ e. HasLimit (limit_in config) (file_of e)) }
-        ensures refused { IfErr result (λ e. IsRefused D.history disk e.0 e.1) }
+        ensures refused { IfErr result (λ e. IsFileRefused D.history disk e.0 e.1) }
     {
         let (file, told) = match open_file(alloc, disk, config.limit()) {
             Ok(found) => found,
@@ -121,13 +121,13 @@ impl<D: Disk> Engine<D> {
     /// Reads a command and runs it.
     fn run(&mut self, connection: ConnId, body: &Document) -> Result<Answer, Refusal>
         requires sound { IsSound D.history self.old }
-        ensures performs { Performs D.history
+        ensures performs { RunsCommand D.history
             (read_and_run (world self.old) connection body.now)
             (outcome_of result) self.old self.new }
         ensures has_changes { KeepsWord (disk_history D.history self.new)
             → WroteNothing (world self.old) (Ok body.now) (world self.new)
             → has_changes self.new ≡ has_changes self.old }
-        ensures reads { BodyOnlyReads (Ok body.now) → PerformsReading D.history
+        ensures reads { BodyOnlyReads (Ok body.now) → RunsReadingCommand D.history
             (read_and_run (world self.old) connection body.now)
             (outcome_of result) self.old self.new }
         ensures sure { BodyNeedsNoDisk (Ok body.now) → Runs (world self.old)
@@ -150,14 +150,14 @@ impl<D: Disk> Engine<D> {
     fn perform(&mut self, connection: ConnId, command: &Command<'_>) -> Result<Answer, Refusal>
         requires bounded { IsBounded (command_read command.now) }
         requires sound { IsSound D.history self.old }
-        ensures performs { Performs D.history
+        ensures performs { RunsCommand D.history
             (run (world self.old) connection (command_read command.now))
             (outcome_of result) self.old self.new }
         ensures has_changes { KeepsWord (disk_history D.history self.new)
             → (world self.new).collections ≡ (world self.old).collections
             → ChangesNone (world self.old) (command_read command.now)
             → has_changes self.new ≡ has_changes self.old }
-        ensures reads { OnlyReads (Ok (command_read command.now)) → PerformsReading D.history
+        ensures reads { OnlyReads (Ok (command_read command.now)) → RunsReadingCommand D.history
             (run (world self.old) connection (command_read command.now))
             (outcome_of result) self.old self.new }
         ensures sure { NeedsNoDisk (Ok (command_read command.now)) → Runs (world self.old)
@@ -197,13 +197,13 @@ impl<D: Disk> Engine<D> {
         requires bounded { IsBounded (command_read command.now) }
         requires administrative { IsAdministrative (command_read command.now) }
         requires sound { IsSound D.history self.old }
-        ensures performs { Performs D.history
+        ensures performs { RunsCommand D.history
             (run (world self.old) connection (command_read command.now))
             (outcome_of result) self.old self.new }
         ensures has_changes { KeepsWord (disk_history D.history self.new)
             → (world self.new).collections ≡ (world self.old).collections
             → has_changes self.new ≡ has_changes self.old }
-        ensures reads { OnlyReads (Ok (command_read command.now)) → PerformsReading D.history
+        ensures reads { OnlyReads (Ok (command_read command.now)) → RunsReadingCommand D.history
             (run (world self.old) connection (command_read command.now))
             (outcome_of result) self.old self.new }
         ensures sure { NeedsNoDisk (Ok (command_read command.now)) → Runs (world self.old)
@@ -238,7 +238,7 @@ impl<D: Disk> Engine<D> {
     pub fn execute(&mut self, connection: ConnId, body: &Document) -> Reply
         requires sound { IsSound D.history self.old }
         ensures sound { IsSound D.history self.new }
-        ensures goes { Continues D.history self.old self.new }
+        ensures continues { Continues D.history self.old self.new }
         ensures answers { KeepsWord (disk_history D.history self.new)
             → Answers (FileCause D.history (file_of self.old) (file_of self.new))
             (world self.old) connection (Ok body.now) (world self.new) (reply_of result) }
@@ -251,7 +251,7 @@ impl<D: Disk> Engine<D> {
             → has_changes self.new ≡ has_changes self.old }
         ensures reads { BodyOnlyReads (Ok body.now) → has_changes self.new ≡ has_changes self.old }
         ensures takes { BodyOnlyReads (Ok body.now)
-            → full_takes_of D.history self.new ≡ full_takes_of D.history self.old }
+            → failed_allocations_of D.history self.new ≡ failed_allocations_of D.history self.old }
         ensures room { KeepsWord (disk_history D.history self.new) → BodyOnlyReads (Ok body.now)
             → Answers (λ planned. HasReadCause D.history (file_of self.old) (file_of self.new))
             (world self.old) connection (Ok body.now) (world self.new) (reply_of result) }
@@ -273,7 +273,7 @@ impl<D: Disk> Engine<D> {
     /// or not.
     pub fn commit_turn(&mut self) -> Result<(), CommitFault>
         requires sound { IsSound D.history self.old }
-        ensures { Commits D.history result self.old self.new }
+        ensures { CommitsTurn D.history result self.old self.new }
     {
         if !self.is_changed {
             self.cursors.commit();
@@ -289,11 +289,11 @@ impl<D: Disk> Engine<D> {
                 Err(CommitFault::Device)
             }
             Err(CommitFault::Memory) => {
-                self.take_back();
+                self.roll_back();
                 Err(CommitFault::Memory)
             }
             Err(CommitFault::Full) => {
-                self.take_back();
+                self.roll_back();
                 Err(CommitFault::Full)
             }
         }
@@ -305,7 +305,7 @@ impl<D: Disk> Engine<D> {
         ensures cursors { self.new.cursors ≡ all_at_rest self.old.cursors }
         ensures world { world self.new ≡ after_commit (world self.old) }
         ensures turn_start { turn_start self.new ≡ (world self.new).collections }
-        ensures rests { has_changes self.new ≡ false }
+        ensures clean { has_changes self.new ≡ false }
     {
         self.told.keep();
         self.is_changed = false;
@@ -313,17 +313,17 @@ impl<D: Disk> Engine<D> {
     }
 
     /// The turn's changes are taken back. It takes no memory.
-    fn take_back(&mut self)
+    fn roll_back(&mut self)
         ensures file { Undoes D.history self.old.file self.new.file }
         ensures tied { (changed : Bool) → AreTied changed D.history self.old.file self.old.cursors.list
             → AreTied false D.history self.new.file self.new.cursors.list }
         ensures world { world self.new ≡ after_undo (turn_start self.old) (world self.old) }
         ensures turn_start { turn_start self.new ≡ (world self.new).collections }
-        ensures rests { has_changes self.new ≡ false }
+        ensures clean { has_changes self.new ≡ false }
     {
         end_all(&mut self.file, &mut self.cursors, &Ends::Touched);
         self.file.undo();
-        self.told.take_back();
+        self.told.roll_back();
         self.is_changed = false;
     }
 
@@ -334,18 +334,18 @@ impl<D: Disk> Engine<D> {
         ensures disk { disk_history D.history self.new ≡ disk_history D.history self.old }
         ensures running { is_stopped self.new ≡ is_stopped self.old }
         ensures generation { generation self.new ≡ generation self.old }
-        ensures takes { full_takes_of D.history self.new ≡ full_takes_of D.history self.old }
+        ensures takes { failed_allocations_of D.history self.new ≡ failed_allocations_of D.history self.old }
         ensures reads { failed_reads_of D.history self.new ≡ failed_reads_of D.history self.old }
         ensures world { world self.new ≡ after_undo (turn_start self.old) (world self.old) }
         ensures turn_start { turn_start self.new ≡ (world self.new).collections }
-        ensures rests { has_changes self.new ≡ false }
+        ensures clean { has_changes self.new ≡ false }
         ensures rested { are_untouched (world self.new).cursors ≡ true }
     {
         if !self.is_changed {
             end_all(&mut self.file, &mut self.cursors, &Ends::Touched);
             return;
         }
-        self.take_back();
+        self.roll_back();
     }
 
     /// A connection has ended, and its cursors with it.
@@ -355,7 +355,7 @@ impl<D: Disk> Engine<D> {
         ensures disk { disk_history D.history self.new ≡ disk_history D.history self.old }
         ensures running { is_stopped self.new ≡ is_stopped self.old }
         ensures generation { generation self.new ≡ generation self.old }
-        ensures takes { full_takes_of D.history self.new ≡ full_takes_of D.history self.old }
+        ensures takes { failed_allocations_of D.history self.new ≡ failed_allocations_of D.history self.old }
         ensures reads { failed_reads_of D.history self.new ≡ failed_reads_of D.history self.old }
         ensures world { world self.new ≡ forget (world self.old) connection }
         ensures turn_start { turn_start self.new ≡ turn_start self.old }

@@ -7,7 +7,7 @@ ghost use Rattle.entries.specs.LawfulState.{IsStorable};
 ghost use Rattle.engine.specs.Durable.{IsSound};
 ghost use Rattle.engine.specs.Looking.{LooksOf};
 ghost use Rattle.engine.specs.Storing.{AreNoted, IsBeside, IsFull, MayEnter, Notes, TellsDuplicate, TellsTaken, entering};
-ghost use Rattle.engine.specs.Trying.{Tries};
+ghost use Rattle.engine.specs.Trying.{MayRefuse};
 ghost use Rattle.statements.specs.Updating.{MayBePut};
 ghost use Rattle.engine.specs.View.{world};
 ghost use Rattle.database_model.specs.Documents.{key_of};
@@ -32,7 +32,7 @@ impl<D: Disk> Engine<D> {
         requires none { edits.old ≡ [] }
         requires short { length namespace.now ≤ 255 }
         requires sound { IsSound D.history self.old }
-        ensures tries { Tries D.history
+        ensures tries { MayRefuse D.history
             (λ home. AreNoted (world self.old).collections namespace.now home edits.new
             (collection_of (world self.old).collections namespace.now))
             (IsFull (world self.old).collections namespace.now)

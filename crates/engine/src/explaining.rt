@@ -4,7 +4,7 @@ ghost use Rattle.std.specs.Prelude.{◌≡◌, IfOk};
 ghost use Rattle.database_model.specs.Explain.{explain_reply, run_explain};
 ghost use Rattle.database_model.specs.Refusals.{ok_reply};
 ghost use Rattle.engine.specs.Durable.{has_changes, IsSound};
-ghost use Rattle.engine.specs.Performing.{PerformsReading};
+ghost use Rattle.engine.specs.Performing.{RunsReadingCommand};
 ghost use Rattle.engine.specs.View.{world};
 ghost use Rattle.planner.specs.Explaining.{explain_text};
 ghost use Rattle.planner.specs.View.{plan_of};
@@ -33,7 +33,7 @@ impl<D: Disk> Engine<D> {
     /// Says how a find would look for its documents. A missing collection is scanned.
     pub(crate) fn explain(&mut self, namespace: &str, query: &Query) -> Result<Document, Refusal>
         requires { IsSound D.history self.old }
-        ensures performs { PerformsReading D.history
+        ensures performs { RunsReadingCommand D.history
             (run_explain (world self.old)
             (record { namespace = namespace.now; query = query.now }))
             result self.old self.new }

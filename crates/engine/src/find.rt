@@ -3,8 +3,8 @@
 ghost use Rattle.std.specs.Prelude.{◌≡◌, ◌≤◌, [], Some, IfOk, length, drop};
 ghost use Rattle.database_model.specs.Cursors.{batch_of, first_batch};
 ghost use Rattle.engine.specs.Durable.{has_changes, IsSound};
-ghost use Rattle.database_model.specs.Find.{window, given, run_find, Suffices};
-ghost use Rattle.engine.specs.Performing.{PerformsReading};
+ghost use Rattle.database_model.specs.Find.{window, given, run_find, FirstAreEnough};
+ghost use Rattle.engine.specs.Performing.{RunsReadingCommand};
 ghost use Rattle.pinned_cursors.specs.Opening.{that_keep};
 ghost use Rattle.replies.specs.View.{IsSendable, Runs};
 ghost use Rattle.engine.specs.View.{world};
@@ -47,7 +47,7 @@ pub(crate) fn window<T: Drop>(
 
 /// So many of the documents that match, in their order, are enough: all, or none past the limit.
 pub(crate) fn enough(query: &Query) -> usize
-    ensures { Suffices query.now result }
+    ensures { FirstAreEnough query.now result }
 {
     if query.limit == 0 {
         return usize::MAX;
@@ -67,7 +67,7 @@ impl<D: Disk> Engine<D> {
     ) -> Result<SpelledDocument, Refusal>
         requires short { length namespace.now ≤ 255 }
         requires sound { IsSound D.history self.old }
-        ensures performs { PerformsReading D.history
+        ensures performs { RunsReadingCommand D.history
             (run_find (world self.old) connection
             (record { namespace = namespace.now; query = query.now; batch_size = Some most }))
             result self.old self.new }

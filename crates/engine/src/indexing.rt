@@ -6,7 +6,7 @@ ghost use Rattle.database_model.specs.CreateIndexes.{with_new_index, with_new_in
 ghost use Rattle.engine.specs.Durable.{IsRunning, IsSound};
 ghost use Rattle.engine.specs.Indexing.{HasDocumentsOf, HasIndexed, IsIndexed, IsIndexing, IsUnbegun, IsUnindexable, RefusesOne, TakesEach};
 ghost use Rattle.engine.specs.Storing.{Notes};
-ghost use Rattle.engine.specs.Trying.{TriesOf};
+ghost use Rattle.engine.specs.Trying.{MayRefuseOf};
 ghost use Rattle.engine.specs.View.{world};
 
 use crate::MOST_INDEXES;
@@ -38,7 +38,7 @@ impl<D: Disk> Engine<D> {
     /// The next documents of a walk enter an index: whether there were some.
     fn take_batch(&mut self, made: &mut NewEntries, walk: &mut Walk) -> Result<bool, Refusal>
         requires sound { IsSound D.history self.old }
-        ensures tries { TriesOf D.history (IsIndexing walk.old made.old)
+        ensures tries { MayRefuseOf D.history (IsIndexing walk.old made.old)
             (HasIndexed walk.new made.new) IsUnindexable result self.old self.new }
         ensures ends { IfOk result (λ more. more ≡ true → walk.new.left < walk.old.left) }
     {
@@ -51,7 +51,7 @@ impl<D: Disk> Engine<D> {
     fn take_all(&mut self, made: &mut NewEntries, namespace: &str) -> Result<(), Refusal>
         requires sound { IsSound D.history self.old }
         requires running { IsRunning self.old }
-        ensures { TriesOf D.history (IsUnbegun namespace.now made.old) (IsIndexed made.new)
+        ensures { MayRefuseOf D.history (IsUnbegun namespace.now made.old) (IsIndexed made.new)
             IsUnindexable result self.old self.new }
     {
         let Some(number) = self.number_of(namespace)? else {

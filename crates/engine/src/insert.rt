@@ -7,12 +7,12 @@ ghost use Rattle.database_model.specs.Documents.{insert_all, insert_one};
 ghost use Rattle.database_model.specs.Insert.{inserted, run_insert};
 ghost use Rattle.page.specs.History.{KeepsWord};
 ghost use Rattle.engine.specs.Durable.{disk_history, has_changes, IsSound};
-ghost use Rattle.engine.specs.Performing.{Performs};
+ghost use Rattle.engine.specs.Performing.{RunsCommand};
 ghost use Rattle.collections.specs.Reading.{IsWithinLimits};
 ghost use Rattle.engine.specs.Storing.{IsAny, Notes};
 ghost use Rattle.replies.specs.View.{IsSendable};
 ghost use Rattle.engine.specs.View.{world};
-ghost use Rattle.engine.specs.Writing.{Makes};
+ghost use Rattle.engine.specs.Writing.{ChangesCollections};
 
 use crate::engine::Engine;
 use bson::Document;
@@ -43,7 +43,7 @@ impl<D: Disk> Engine<D> {
         requires some { 1 ≤ length documents.now }
         requires short { length namespace.now ≤ 255 }
         requires sound { IsSound D.history self.old }
-        ensures performs { Performs D.history
+        ensures performs { RunsCommand D.history
             (run_insert (world self.old)
             (record { namespace = namespace.now; documents = documents_at documents.now }))
             result self.old self.new }
@@ -61,7 +61,7 @@ impl<D: Disk> Engine<D> {
     fn store(&mut self, namespace: &str, documents: &[&Document]) -> Result<(), Refusal>
         requires short { length namespace.now ≤ 255 }
         requires sound { IsSound D.history self.old }
-        ensures { Makes D.history
+        ensures { ChangesCollections D.history
             (inserted (world self.old).collections namespace.now (documents_at documents.now))
             result self.old self.new }
     {

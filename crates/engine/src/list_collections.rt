@@ -5,7 +5,7 @@ ghost use Rattle.collections.specs.Reading.{name_of};
 ghost use Rattle.database_model.specs.ListCollections.{name_in, names_behind, names_in, listed, run_list_collections};
 ghost use Rattle.engine.specs.Durable.{has_changes, IsSound};
 ghost use Rattle.engine.specs.Looking.{Looks};
-ghost use Rattle.engine.specs.Performing.{PerformsReading};
+ghost use Rattle.engine.specs.Performing.{RunsReadingCommand};
 ghost use Rattle.database_model.specs.Lawful.{IsWithin};
 ghost use Rattle.replies.specs.View.{IsSendable};
 ghost use Rattle.engine.specs.View.{world};
@@ -71,7 +71,7 @@ impl<D: Disk> Engine<D> {
     pub(crate) fn list_collections(&mut self, database: &str) -> Result<SpelledDocument, Refusal>
         requires short { length database.now ≤ 63 }
         requires sound { IsSound D.history self.old }
-        ensures performs { PerformsReading D.history
+        ensures performs { RunsReadingCommand D.history
             (run_list_collections (world self.old) (record { database = database.now }))
             result self.old self.new }
         ensures has_changes { has_changes self.new ≡ has_changes self.old }

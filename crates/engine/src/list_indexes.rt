@@ -5,7 +5,7 @@ ghost use Rattle.std.specs.List.{AllByRecursion};
 ghost use Rattle.index.specs.Definition.{IsDefinition};
 ghost use Rattle.engine.specs.Durable.{has_changes, IsSound};
 ghost use Rattle.database_model.specs.ListIndexes.{described_all, described_id, described_index, indexes_reply, run_list_indexes};
-ghost use Rattle.engine.specs.Performing.{PerformsReading};
+ghost use Rattle.engine.specs.Performing.{RunsReadingCommand};
 ghost use Rattle.database_model.specs.Refusals.{ok_reply};
 ghost use Rattle.replies.specs.View.{IsSendable};
 ghost use Rattle.engine.specs.View.{world};
@@ -69,7 +69,7 @@ impl<D: Disk> Engine<D> {
     pub(crate) fn list_indexes(&mut self, namespace: &str) -> Result<SpelledDocument, Refusal>
         requires short { length namespace.now ≤ 255 }
         requires sound { IsSound D.history self.old }
-        ensures performs { PerformsReading D.history
+        ensures performs { RunsReadingCommand D.history
             (run_list_indexes (world self.old) (record { namespace = namespace.now }))
             result self.old self.new }
         ensures has_changes { has_changes self.new ≡ has_changes self.old }

@@ -18,7 +18,7 @@ ghost use Rattle.queries.specs.LookedUp.{IsLookedUp, IsLookedUpWithin};
 ghost use Rattle.replies.specs.View.{IsSendable};
 
 use crate::engine::Engine;
-use asked_documents::Selects;
+use asked_documents::DocumentPredicate;
 use bson::SpelledDocument;
 use commands::Query;
 use entries::Catalogued;
@@ -51,7 +51,7 @@ impl<D: Disk> Engine<D> {
     }
 
     /// The documents of a collection that are looked for, in ascending order of `_id`: the first ones, up to so many.
-    pub(crate) fn selected<S: Selects>(
+    pub(crate) fn selected<S: DocumentPredicate>(
         &mut self,
         home: &Catalogued,
         which: &S,

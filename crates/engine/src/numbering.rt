@@ -3,7 +3,7 @@
 ghost use Rattle.std.specs.Prelude.{◌≡◌, ◌<◌, ◌≤◌, IfOk, length};
 ghost use Rattle.engine.specs.Durable.{IsSound};
 ghost use Rattle.engine.specs.Numbering.{AreMarked, IsNewNumber, IsTooMany, numbered};
-ghost use Rattle.engine.specs.Trying.{Tries};
+ghost use Rattle.engine.specs.Trying.{MayRefuse};
 ghost use Rattle.engine.specs.View.{world};
 ghost use Rattle.database_model.specs.World.{unused};
 
@@ -51,7 +51,7 @@ impl<D: Disk> Engine<D> {
     /// many.
     pub(crate) fn new_number(&mut self) -> Result<u32, Refusal>
         requires sound { IsSound D.history self.old }
-        ensures tries { Tries D.history (IsNewNumber (world self.old).collections)
+        ensures tries { MayRefuse D.history (IsNewNumber (world self.old).collections)
             (IsTooMany (world self.old).collections) result self.old self.new }
         ensures within { IfOk result (λ n. (1 ≤ n) × (n ≤ 1000)) }
     {

@@ -13,17 +13,17 @@ use path::Refusal;
 #[derive(Clone, Copy)]
 pub(crate) struct Troubles {
     failed_reads: u64,
-    full_takes: u64,
+    failed_allocations: u64,
 }
 
 /// Those of a file so far.
 pub(crate) fn troubles_of<D: Disk>(file: &Collections<D>) -> Troubles
     ensures { let pages = pages_of D.history file.now in
-        result ≡ record { failed_reads = pages.failed_reads; full_takes = pages.full_takes } }
+        result ≡ record { failed_reads = pages.failed_reads; failed_allocations = pages.failed_allocations } }
 {
     Troubles {
         failed_reads: file.failed_reads(),
-        full_takes: file.full_takes(),
+        failed_allocations: file.failed_allocations(),
     }
 }
 
@@ -38,7 +38,7 @@ pub(crate) fn told(refusal: Refusal, before: Troubles, now: Troubles) -> Refusal
     if before.failed_reads < now.failed_reads {
         return Refusal::StorageFailed;
     }
-    if before.full_takes < now.full_takes {
+    if before.failed_allocations < now.failed_allocations {
         return Refusal::Full;
     }
     refusal

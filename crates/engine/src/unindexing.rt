@@ -33,7 +33,7 @@ fn unindex_one(
     index: &IndexSpec,
     document: &Document,
 ) -> Result<(), Refusal>
-    ensures goes { OnOk result (GoesOnBy edits.old
+    ensures continues { OnOk result (GoesOnBy edits.old
         (removals (index_entries number document.now index.now)) edits.new) }
     ensures refuses { IfErr result (λ e. HasKeysIn index.now document.now
         → e ≡ Refusal.OutOfMemory) }

@@ -8,11 +8,11 @@ ghost use Rattle.command_model.specs.Command.{update};
 ghost use Rattle.engine.specs.Durable.{disk_history, has_changes, IsSound};
 ghost use Rattle.database_model.specs.Lawful.{IsWithin};
 ghost use Rattle.database_model.specs.Merging.{made_by, makes_any};
-ghost use Rattle.engine.specs.Performing.{Performs};
-ghost use Rattle.engine.specs.Putting.{AreWritesOf, HasNumber, IsFullFor, IsFullWithout, IsMeant, IsUpdate, MeansIn, NotesWrites, RepliesTo, Suffices};
+ghost use Rattle.engine.specs.Performing.{RunsCommand};
+ghost use Rattle.engine.specs.Putting.{AreWritesOf, HasNumber, IsFullFor, IsFullWithout, IsMeant, IsUpdate, MeansIn, NotesWrites, RepliesTo, FirstAreEnough};
 ghost use Rattle.database_model.specs.Step.{ChangesNone};
 ghost use Rattle.engine.specs.Storing.{MayEnter, Notes, entering};
-ghost use Rattle.engine.specs.Trying.{Tries};
+ghost use Rattle.engine.specs.Trying.{MayRefuse};
 ghost use Rattle.entries.specs.Entering.{enter_each};
 ghost use Rattle.database_model.specs.UpdateCommand.{run_update};
 ghost use Rattle.statements.specs.Updating.{MayBePut, news_of, seen};
@@ -33,7 +33,7 @@ use std::alloc::Global;
 /// The documents that the statements of an update may mean, as many as are enough, and the collection that
 /// has them.
 #[derive(Drop)]
-pub(crate) struct Meant {
+pub(crate) struct Candidates {
     number: u32,
     /// Whether it is missing, and a statement makes a document where none matches.
     is_new: bool,
@@ -50,7 +50,7 @@ fn makes_any(statements: &[UpdateStatement]) -> bool
 /// So many of the documents that statements may mean are enough, in ascending order of `_id`: one, where the
 /// only statement changes one and makes none.
 fn enough(statements: &[UpdateStatement], made: &[Document]) -> usize
-    ensures { made.now ≡ made_by statements.now → Suffices statements.now result }
+    ensures { made.now ≡ made_by statements.now → FirstAreEnough statements.now result }
 {
     match statements {
         [only] if !only.multi && made.is_empty() => 1,
@@ -90,7 +90,7 @@ impl<D: Disk> Engine<D> {
         requires short { length namespace.now ≤ 255 }
         requires read { All (λ (s : UpdateStatement). IsRead s.change) statements.now }
         requires sound { IsSound D.history self.old }
-        ensures performs { Performs D.history
+        ensures performs { RunsCommand D.history
             (run_update (world self.old)
             (record { namespace = namespace.now; statements = statements.now }))
             result self.old self.new }
@@ -116,7 +116,7 @@ impl<D: Disk> Engine<D> {
         requires few { length statements.now ≤ 1000 }
         requires read { All (λ (s : UpdateStatement). IsRead s.change) statements.now }
         requires sound { IsSound D.history self.old }
-        ensures tries { Tries D.history
+        ensures tries { MayRefuse D.history
             (IsUpdate (world self.old).collections namespace.now statements.now)
             (IsFullFor (world self.old).collections namespace.now statements.now)
             result self.old self.new }
@@ -189,9 +189,13 @@ impl<D: Disk> Engine<D> {
     /// The documents that statements may mean in the collection of a name, as many as are enough. One walk
     /// reads them. `TooMany` where the collection is missing, and making it for a document that a statement
     /// makes would be one too many.
-    fn meant(&mut self, namespace: &str, statements: &[UpdateStatement]) -> Result<Meant, Refusal>
+    fn meant(
+        &mut self,
+        namespace: &str,
+        statements: &[UpdateStatement],
+    ) -> Result<Candidates, Refusal>
         requires sound { IsSound D.history self.old }
-        ensures tries { Tries D.history
+        ensures tries { MayRefuse D.history
             (IsMeant (world self.old).collections namespace.now statements.now)
             (IsFullFor (world self.old).collections namespace.now statements.now)
             result self.old self.new }
@@ -207,7 +211,7 @@ impl<D: Disk> Engine<D> {
             made: &made,
         };
         let documents = self.selected(&home, &meaning, enough(statements, &made))?;
-        Ok(Meant {
+        Ok(Candidates {
             number: home.number,
             is_new: false,
             documents,
@@ -215,9 +219,9 @@ impl<D: Disk> Engine<D> {
     }
 
     /// No documents, in a collection that is missing.
-    fn meant_in_none(&mut self, statements: &[UpdateStatement]) -> Result<Meant, Refusal>
+    fn meant_in_none(&mut self, statements: &[UpdateStatement]) -> Result<Candidates, Refusal>
         requires sound { IsSound D.history self.old }
-        ensures tries { Tries D.history
+        ensures tries { MayRefuse D.history
             (MeansIn None (world self.old).collections statements.now)
             (IsFullWithout (world self.old).collections statements.now)
             result self.old self.new }
@@ -225,14 +229,14 @@ impl<D: Disk> Engine<D> {
         ensures number { IfOk result (λ m. HasNumber m.is_new m.number) }
     {
         if !makes_any(statements) {
-            return Ok(Meant {
+            return Ok(Candidates {
                 number: 0,
                 is_new: false,
                 documents: Vec::new(self.alloc),
             });
         }
         let number = self.new_number()?;
-        Ok(Meant {
+        Ok(Candidates {
             number,
             is_new: true,
             documents: Vec::new(self.alloc),

@@ -4,7 +4,7 @@ ghost use Rattle.std.specs.Prelude.{◌≡◌, ◌-◌, ◌≤◌, true, IfOk, S
 ghost use Rattle.database_model.specs.Find.{run_find};
 ghost use Rattle.database_model.specs.World.{documents_of};
 ghost use Rattle.engine.specs.Durable.{disk_history, file_of, has_changes, IsSound};
-ghost use Rattle.engine.specs.Performing.{PerformsReading};
+ghost use Rattle.engine.specs.Performing.{RunsReadingCommand};
 ghost use Rattle.engine.specs.TakingOut.{HasHome};
 ghost use Rattle.engine.specs.View.{world};
 ghost use Rattle.engine.specs.Walking.{IsFirstAsked, IsWholeWalk};
@@ -20,7 +20,7 @@ use bson::SpelledDocument;
 use commands::Query;
 use cursors::Rest;
 use entries::Catalogued;
-use opening::Told;
+use opening::GhostState;
 use page::Disk;
 use path::Refusal;
 use pinned_cursors::{WalkSoFar, open_pinned};
@@ -55,7 +55,7 @@ fn whole_asked(namespace: &str, most: usize) -> BatchAsked<'_>
 
 /// What a query asks for behind so many documents, from a key text on, of those of the collection of a name.
 fn rest_from<'a>(
-    told: &'a Told,
+    told: &'a GhostState,
     namespace: &'a str,
     query: &'a Query,
     count: usize,
@@ -81,7 +81,7 @@ impl<D: Disk> Engine<D> {
         requires short { length namespace.now ≤ 255 }
         requires sound { IsSound D.history self.old }
         requires in_order { keeps_id_order query.now.sort ≡ true }
-        ensures performs { PerformsReading D.history
+        ensures performs { RunsReadingCommand D.history
             (run_find (world self.old) connection
             (record { namespace = namespace.now; query = query.now; batch_size = Some most }))
             result self.old self.new }
@@ -120,7 +120,7 @@ impl<D: Disk> Engine<D> {
         requires in_order { keeps_id_order query.now.sort ≡ true }
         requires home { KeepsWord (disk_history D.history self.old)
             → HasHome (world self.old).collections namespace.now home.now }
-        ensures performs { PerformsReading D.history
+        ensures performs { RunsReadingCommand D.history
             (run_find (world self.old) connection
             (record { namespace = namespace.now; query = query.now; batch_size = Some most }))
             result self.old self.new }

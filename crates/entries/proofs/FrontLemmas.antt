@@ -87,13 +87,13 @@ goes_on_between (b ∷ front) (c ∷ key) rest above below = by (cases_lt c b) (
   where
     by : (c < b) ⊎ (b ≤ c) → (b < c) ⊎ (c ≤ b) → (is_lt (key_cmp key front) ≡ false → key_cmp key (front ++ rest) ≡ Less → GoesOn front key)
         → GoesOn (b ∷ front) (c ∷ key)
-    by (inl less) q on =
+    by (inl less) q extends =
         absurd (let e : true ≡ false = ap (λ (o : Ordering). is_lt (ordering_then o (key_cmp key front))) (nat_cmp_is c b Less less) ∙ above in cc)
-    by (inr p) (inl more) on =
+    by (inr p) (inl more) extends =
         absurd (let e : Greater ≡ Less = ap (λ (o : Ordering). ordering_then o (key_cmp key (front ++ rest))) (nat_cmp_is c b Greater more) ∙ below in cc)
-    by (inr p) (inr q) on =
+    by (inr p) (inr q) extends =
         let same : c ≡ b = omega (arith, p, q) in
-        let later = on
+        let later = extends
         (sym (ap is_lt (head_same b key front)) ∙ subst (λ (n : ℕ). is_lt (key_cmp (n ∷ key) (b ∷ front)) ≡ false) same above)
         (sym (head_same b key (front ++ rest)) ∙ subst (λ (n : ℕ). key_cmp (n ∷ key) (b ∷ (front ++ rest)) ≡ Less) same below) in
         record { rest = later.rest; is = λ i. same i ∷ later.is i }

@@ -249,7 +249,7 @@ module _ (c : Collection) (i : Definition) (done : List Pairs) (n : NewEntries) 
 
     pub has_next : (new : NewEntries) → new.number ≡ n.number → new.index ≡ noted d n.index
         → GoesOnBy n.entries (puts (index_entries n.number d n.index)) new.entries → HasEntries c i (done ++ d ∷ []) new
-    has_next new number_is index_is goes = record {
+    has_next new number_is index_is continues = record {
       number = number_is ∙ has.number;
       index = ap (λ (j : Definition). j.number) index_is ∙ noted_number d n.index ∙ has.index;
       entered = ap (enter_each (alone c i)) (map-append as_new done (d ∷ []))
@@ -260,7 +260,7 @@ module _ (c : Collection) (i : Definition) (done : List Pairs) (n : NewEntries) 
           ∙ ap (λ (j : Definition). is_ok (record c { documents = done ++ d ∷ []; indexes = j ∷ [] })) (sym index_is);
       indexed = subst (λ (j : Definition). AreIndexed (done ++ d ∷ []) (j ∷ [])) (sym index_is) (stay_indexed so_far with_it (as_new d) has.indexed enters);
       entries =
-          let more = (puts_one_more [] n.number n.index).1 n.entries new.entries done d has.entries goes in
+          let more = (puts_one_more [] n.number n.index).1 n.entries new.entries done d has.entries continues in
           let with_noted = entries_noted [] new.entries n.number d n.index (done ++ d ∷ []) more in
           subst (λ (j : Definition). HasPutEntries [] new.entries new.number j (done ++ d ∷ [])) (sym index_is)
           (subst (λ (m : ℕ). HasPutEntries [] new.entries m (noted d n.index) (done ++ d ∷ [])) (sym number_is) with_noted);
@@ -272,9 +272,9 @@ pub takes_next : (old new : NewEntries) (d : Pairs) (id : List ℕ) (keys : List
     → keys_in old.index.fields d ≡ Ok keys
     → (old.index.is_unique && puts_any old.number old.index.number id keys old.entries) ≡ false → new.number ≡ old.number → new.index ≡ noted d old.index
     → GoesOnBy old.entries (puts (index_entries old.number d old.index)) new.entries → TakesNext old new d
-takes_next old new d id keys rises text keyed clear number_is index_is goes c i done rest kept all has =
+takes_next old new d id keys rises text keyed clear number_is index_is continues c i done rest kept all has =
     let next = next_of c done rest d kept all in
-    has_next c i done old d next has keys keyed (sym (taken_is c i done old d next has rises id keys text keyed) ∙ clear) new number_is index_is goes
+    has_next c i done old d next has keys keyed (sym (taken_is c i done old d next has rises id keys text keyed) ∙ clear) new number_is index_is continues
 
 pub refuses_keys : (old : NewEntries) (d : Pairs) (e : Refusal) → keys_in old.index.fields d ≡ Err e → RefusesNext old d e
 refuses_keys old d e refused c i done rest kept all has =
@@ -297,12 +297,12 @@ refuses_taken old d id keys rises text keyed taken c i done rest kept all has =
 -- edits noted behind others that make the entries of nothing else make them behind these
 behind_these : (old mid own : List Edit) (m : ℕ) (i : Definition) (ds : List Pairs) → HasPutEntries [] own m i ds → GoesOnBy old own mid
     → HasPutEntries old mid m i ds
-behind_these old mid own m i ds entries goes xs h = goes xs h ∙ entries (change old xs) (rises_change old xs h)
+behind_these old mid own m i ds entries continues xs h = continues xs h ∙ entries (change old xs) (rises_change old xs h)
 
 pub makes_index_of : (old mid new : List Edit) (name : List ℕ) (number : ℕ) (indexes : List Definition) (n : NewEntries) → length indexes < 16
     → GoesOnBy old n.entries mid
     → GoesOnBy mid (catalogue_put name number (indexes ++ n.index ∷ []) ∷ []) new → MakesIndexOf old new name number indexes n
-makes_index_of old mid new name number indexes n few goes catalogue a b c i lead lawful found numbered indexed fresh has = (
+makes_index_of old mid new name number indexes n few continues catalogue a b c i lead lawful found numbered indexed fresh has = (
   ap (λ (r : Result Collection Refusal). r >>= (λ made. Ok (record c { indexes = c.indexes ++ made.indexes }))) has.entered,
   makes_index_of_all old mid new a b c n.index lead entries put may,
   stays_lawful b c next may,
@@ -316,7 +316,7 @@ makes_index_of old mid new name number indexes n few goes catalogue a b c i lead
 
     entries : HasPutEntries old mid c.number n.index c.documents
     entries = subst (λ (m : ℕ). HasPutEntries old mid m n.index c.documents) has.number
-        (behind_these old mid n.entries n.number n.index c.documents has.entries goes)
+        (behind_these old mid n.entries n.number n.index c.documents has.entries continues)
 
     put : GoesOnBy mid (catalogue_put c.name c.number (c.indexes ++ n.index ∷ []) ∷ []) new
     put xs h = catalogue xs h ∙ (λ t. change (catalogue_put (named t) (sym numbered t) (sym indexed t ++ n.index ∷ []) ∷ []) (change mid xs))

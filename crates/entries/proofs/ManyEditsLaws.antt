@@ -56,8 +56,8 @@ goes_on old es mid fs new first second xs h =
     second xs h ∙ ap (change fs) (first xs h) ∙ sym (change_append es fs (change old xs))
 
 pub goes_there : (old es new : List Edit) (a b c : List Collection) → GoesOnBy old es new → Leads old a b → Leads es b c → Leads new a c
-goes_there old es new a b c goes first second xs h =
-    subst (λ (ys : List Entry). Spells ys c) (sym (goes xs h.rises)) (second (change old xs) (first xs h))
+goes_there old es new a b c continues first second xs h =
+    subst (λ (ys : List Entry). Spells ys c) (sym (continues xs h.rises)) (second (change old xs) (first xs h))
 
 pub noted_goes : (es old new : List Edit) → Rises (edit_keys old) → new ≡ with_edits es old → GoesOnBy old es new
 noted_goes es old new up is = subst (GoesOnBy old es) (sym is) (with_edits_change es old up)

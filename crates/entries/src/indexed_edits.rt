@@ -112,7 +112,7 @@ impl Edits {
             ≡ with_edits (puts (index_entries number document.now index.now)) self.old) }
         ensures err { OnErr result (NotesSome self.old
             (puts (index_entries number document.now index.now)) self.new) }
-        ensures goes { OnOk result (GoesOnBy self.old
+        ensures continues { OnOk result (GoesOnBy self.old
             (puts (index_entries number document.now index.now)) self.new) }
     {
         let _alloc = self.allocator();
@@ -135,7 +135,7 @@ impl Edits {
             ≡ with_edits (removals (index_entries number document.now index.now)) self.old) }
         ensures err { OnErr result (NotesSome self.old
             (removals (index_entries number document.now index.now)) self.new) }
-        ensures goes { OnOk result (GoesOnBy self.old
+        ensures continues { OnOk result (GoesOnBy self.old
             (removals (index_entries number document.now index.now)) self.new) }
     {
         let _alloc = self.allocator();

@@ -77,7 +77,7 @@ impl Edits {
         ensures ok { OnOk result (self.new
             ≡ with_edit (catalogue_put namespace.now number indexes.now) self.old) }
         ensures err { OnErr result (self.new ≡ self.old) }
-        ensures goes { OnOk result (GoesOnBy self.old
+        ensures continues { OnOk result (GoesOnBy self.old
             (catalogue_put namespace.now number indexes.now ∷ []) self.new) }
         ensures leads { OnOk result
             (NotesIndexesOf self.old self.new namespace.now number indexes.now) }

@@ -6,7 +6,7 @@ use Rattle.std.proofs.lemmas.Bool.Decides.{nat_tests}
 use Rattle.page.specs.Content.{Content}
 use Rattle.btree.specs.Keys.{Each, Pair}
 use Rattle.btree.specs.Store.{Store}
-use Rattle.btree.specs.Tree.{Body, HasChain, HasLinks, IsTree, Shows, Twig, content_of, item_of, place_of}
+use Rattle.btree.specs.Tree.{Body, HasChain, HasLinks, IsTree, Shows, Subtree, content_of, item_of, place_of}
 use Rattle.file_state.specs.TreeTests.{body_in, links_behind, links_from, links_in, pair_in}
 use Rattle.file_state.proofs.EntriesRead.{value_read}
 
@@ -31,7 +31,7 @@ module _ (s : Store) where
       λ i. record { key = x.key; value = value_read s x.links x.value h.0 i; links = place_links x.links x.value h.0 i } ∷ pairs_read xs h.1 i
 
   module _ (d : ℕ) (one : (b : Body d) → Shows s d b → body_in s.page d (content_of d b) ≡ b) where
-    fan_read : (ws : List (Twig (Body d))) → Shows s (suc d) ws → body_in s.page (suc d) (content_of (suc d) ws) ≡ ws
+    fan_read : (ws : List (Subtree (Body d))) → Shows s (suc d) ws → body_in s.page (suc d) (content_of (suc d) ws) ≡ ws
     fan_read [] h = refl
     fan_read (w ∷ ws) h =
         let child = ap (body_in s.page d) h.0.0.holds ∙ one w.body h.0.1 in

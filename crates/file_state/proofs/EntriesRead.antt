@@ -9,9 +9,9 @@ use Rattle.page.specs.Content.{Content}
 use Rattle.btree.specs.Keys.{Each, Entry, Pair, entry_of}
 use Rattle.btree.specs.Reach.{HasMap}
 use Rattle.btree.specs.Store.{Store}
-use Rattle.btree.specs.Tree.{Body, HasChain, HasLinks, Shows, Twig, arm_of, content_of, entries_of, item_of, pairs_of, place_of}
+use Rattle.btree.specs.Tree.{Body, HasChain, HasLinks, Shows, Subtree, pivot_of, content_of, entries_of, item_of, pairs_of, place_of}
 use Rattle.btree.proofs.ListLemmas.{map_append}
-use Rattle.roots.specs.Image.{sheet_at, store_of}
+use Rattle.roots.specs.Image.{model_at, store_of}
 use Rattle.file_state.specs.Entries.{chain_part, chain_from, value_in, entry_in, entries_below, tree_entries, entries_in}
 use Rattle.file_state.specs.Laws.{ReadsEntries}
 
@@ -40,8 +40,8 @@ module _ (s : Store) where
   leaf_read (x ∷ xs) h = λ i. record { key = x.key; value = value_read x.links x.value h.0 i } ∷ leaf_read xs h.1 i
 
   module _ (d levels : ℕ) (one : (b : Body d) → Shows s d b → entries_below s.page levels (content_of d b) ≡ entries_of d b) where
-    fan_read : (ws : List (Twig (Body d))) → Shows s (suc d) ws
-        → flat_map (λ arm. entries_below s.page levels (s.page arm.child)) (map arm_of ws) ≡ entries_of (suc d) ws
+    fan_read : (ws : List (Subtree (Body d))) → Shows s (suc d) ws
+        → flat_map (λ pivot. entries_below s.page levels (s.page pivot.child)) (map pivot_of ws) ≡ entries_of (suc d) ws
     fan_read [] h = refl
     fan_read (w ∷ ws) h =
         let child = ap (entries_below s.page levels) h.0.0.holds ∙ one w.body h.0.1 in
@@ -62,4 +62,4 @@ module _ (s : Store) where
 pub reads_entries : ReadsEntries
 unfolding entries_in
 reads_entries image entries h =
-    ap (tree_entries image) h.opens ∙ map_read (store_of (sheet_at image h.root)) h.root.tree h.pages entries h.holds.map refl
+    ap (tree_entries image) h.opens ∙ map_read (store_of (model_at image h.root)) h.root.tree h.pages entries h.holds.map refl

@@ -11,7 +11,7 @@ use Rattle.entries.specs.State.{Collection}
 use Rattle.entries.specs.StateEntries.{Spells, entry_keys, state_entries}
 use Rattle.entries.proofs.LawfulLaws.{all_of}
 use Rattle.entries.proofs.MemberLemmas.{Among, among_of, contains_of, of_all}
-use Rattle.collections.specs.Holding.{Holds}
+use Rattle.collections.specs.Holding.{HoldsState}
 use Rattle.file_state.specs.Collections.{collections_in}
 use Rattle.file_state.specs.Entries.{entries_in}
 use Rattle.file_state.specs.FileTests.{stands}
@@ -62,7 +62,7 @@ record HoldsRead (image : ℕ → List ℕ) : Type 0 where
   lawful : IsLawfulState (collections_in image)
   stored : AreStored (collections_in image)
 
-holds_read : (image : ℕ → List ℕ) → HoldsRead image → Holds image (collections_in image)
+holds_read : (image : ℕ → List ℕ) → HoldsRead image → HoldsState image (collections_in image)
 holds_read image h = record {
   entries = h.entries;
   stands = h.stands;
@@ -70,7 +70,7 @@ holds_read image h = record {
   state = h.lawful;
 }
 
-read_of : (image : ℕ → List ℕ) (cs : List Collection) → Holds image cs → AreStored cs → HoldsRead image
+read_of : (image : ℕ → List ℕ) (cs : List Collection) → HoldsState image cs → AreStored cs → HoldsRead image
 read_of image cs h stored =
     let same = sym (reads_held image cs h) in
     record {
@@ -98,4 +98,4 @@ some_tested image =
 pub stored_is_held : StoredIsHeld
 stored_is_held image pass =
     let some = (some_tested image).0 pass in
-    subst (Holds image) (sym (gives_stored image some.0 some.1 some.2)) some.1
+    subst (HoldsState image) (sym (gives_stored image some.0 some.1 some.2)) some.1

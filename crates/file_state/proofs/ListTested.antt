@@ -8,13 +8,13 @@ use Rattle.std.proofs.lemmas.Bool.{cases_lt}
 use Rattle.std.proofs.lemmas.Bool.Decides.{Decides-below_and, Decides-eqb, Decides-like, nat_tests}
 use Rattle.std.proofs.lemmas.Option.{same_Some}
 use Rattle.std.proofs.lemmas.Slice.Eq.{bytes_eq-Decides}
-use Rattle.page.specs.Format.{Sheet}
+use Rattle.page.specs.Format.{PageModel}
 use Rattle.page.specs.declared.page_fault.PageFault.{PageFault}
 use Rattle.btree.specs.Keys.{Each, times}
 use Rattle.btree.specs.Reach.{AreOnce}
 use Rattle.btree.proofs.CapacityLemmas.{pages_are_few}
 use Rattle.btree.proofs.ListLemmas.{long_map}
-use Rattle.freelist.specs.FreeList.{AreOnceBelow, Holds, IsFreeList, ListContent, Part, first_page, named_by, pages_of, room_for, times_in}
+use Rattle.freelist.specs.FreeList.{AreOnceBelow, HoldsList, IsFreeList, ListContent, Part, first_page, named_by, pages_of, room_for, times_in}
 use Rattle.freelist.specs.ListReading.{AreAllBelow}
 use Rattle.freelist.proofs.Marking.{times_in-append}
 use Rattle.roots.specs.Image.{HasList, list_in}
@@ -97,7 +97,7 @@ part_tested (Some content) part next =
     (ap (λ (c : ListContent). c.next) same, ap (λ (c : ListContent). c.named) same))
     (Decides-eqb content.next next also bytes_eq-Decides content.named part.named)
 
-parts_tested : (contents : ℕ → Option ListContent) (parts : List Part) → Decides (holds_parts contents parts) (Holds contents parts)
+parts_tested : (contents : ℕ → Option ListContent) (parts : List Part) → Decides (holds_parts contents parts) (HoldsList contents parts)
 parts_tested contents [] = (λ e. tt, λ h. refl)
 parts_tested contents (part ∷ rest) = part_tested (contents part.page) part (first_page rest) also parts_tested contents rest
 
@@ -109,13 +109,13 @@ free_list_tested contents page_count first count parts =
     (Decides-eqb (first_page parts) first also parts_tested contents parts also Decides-eqb (length (named_by parts)) count
     also once_below_tested page_count (pages_of parts ++ named_by parts))
 
-pub list_tested : (sheets : ℕ → Result Sheet PageFault) (root : Root) (pages : List ℕ) (parts : List Part)
-    → Decides (has_list sheets root pages parts) (HasList sheets root pages parts)
-list_tested sheets root pages parts =
+pub list_tested : (models : ℕ → Result PageModel PageFault) (root : Root) (pages : List ℕ) (parts : List Part)
+    → Decides (has_list models root pages parts) (HasList models root pages parts)
+list_tested models root pages parts =
     let named = unequal_tested root.free_list 0 in
     let all = pages ++ (pages_of parts ++ named_by parts) in
-    Decides-like (has_list sheets root pages parts) (λ h. record { list = h.0; all = λ some. h.1 (named.1 some) }) (λ h. (h.list, λ e. h.all (named.0 e)))
-    (free_list_tested (list_in sheets) root.pages root.free_list root.free_count parts
+    Decides-like (has_list models root pages parts) (λ h. record { list = h.0; all = λ some. h.1 (named.1 some) }) (λ h. (h.list, λ e. h.all (named.0 e)))
+    (free_list_tested (list_in models) root.pages root.free_list root.free_count parts
     also implied_tested (not (root.free_list == 0)) (are_all_below root.pages all) (all_below_tested root.pages all))
 
 -- ---- the parts that are read
@@ -125,7 +125,7 @@ no_page_zero page rest none is =
     let test : (0 == page) ≡ true = grind (arith, nat_tests, is) in
     omega (arith, none, ap room_of test)
 
-parts_read : (contents : ℕ → Option ListContent) (most : ℕ) (parts : List Part) → Holds contents parts → times_in 0 (pages_of parts) ≡ 0
+parts_read : (contents : ℕ → Option ListContent) (most : ℕ) (parts : List Part) → HoldsList contents parts → times_in 0 (pages_of parts) ≡ 0
     → length parts ≤ most → parts_from contents most (first_page parts) ≡ parts
 parts_read contents zero [] h none few = refl
 parts_read contents (suc most) [] h none few = refl
@@ -149,11 +149,11 @@ each_below count (page ∷ pages) once = (inside, each_below count pages (λ n. 
           absurd (omega (arith, once page, no_room count page past, ap room_of test))
     ]
 
-pub list_read : (sheets : ℕ → Result Sheet PageFault) (root : Root) (pages : List ℕ) (parts : List Part) → HasList sheets root pages parts
-    → parts_in sheets root ≡ parts
-list_read sheets root pages parts has =
-    ap (parts_from (list_in sheets) root.pages) (sym has.list.begins)
-    ∙ parts_read (list_in sheets) root.pages parts has.list.holds (omega (arith, own 0)) few
+pub list_read : (models : ℕ → Result PageModel PageFault) (root : Root) (pages : List ℕ) (parts : List Part) → HasList models root pages parts
+    → parts_in models root ≡ parts
+list_read models root pages parts has =
+    ap (parts_from (list_in models) root.pages) (sym has.list.begins)
+    ∙ parts_read (list_in models) root.pages parts has.list.holds (omega (arith, own 0)) few
   where
     own : (n : ℕ) → times_in n (pages_of parts) ≤ room_for root.pages n
     own n = omega (arith, has.list.once n, times_in-append n (pages_of parts) (named_by parts))

@@ -8,14 +8,14 @@ use Rattle.std.specs.Str.{bytes_eq}
 use Rattle.std.proofs.ByRecursion as by_recursion
 use Rattle.std.proofs.lemmas.Bool.Decides.{Decides-eqb, Decides-like, Decides-ltb, Decides-not}
 use Rattle.std.proofs.lemmas.Slice.Eq.{bytes_eq-Decides}
-use Rattle.page.specs.Content.{Place, inline, spilled, Item, Arm, Content, leaf, branch, chain, free_list}
-use Rattle.page.specs.Content.{IsArm, IsBranch, IsItem, IsLeaf, IsPlace, arm_keys, arm_size, arms_size, first_key, item_keys, item_size, rise, total}
+use Rattle.page.specs.Content.{Place, inline, spilled, Item, Pivot, Content, leaf, branch, chain, free_list}
+use Rattle.page.specs.Content.{IsPivot, IsBranch, IsItem, IsLeaf, IsPlace, pivot_keys, pivot_size, pivots_size, first_key, item_keys, item_size, rise, total}
 use Rattle.btree.specs.Keys.{Each, IsBetween, IsUnder, IsWithin, Pair, Rises, is_within, key_cmp}
 use Rattle.btree.specs.Store.{IsAt, Store}
-use Rattle.btree.specs.Tree.{Body, HasChain, HasLinks, IsFan, IsSound, IsTree, IsWhole, Shows, Twig, arm_of, content_of, high_of, item_of, next_of}
-use Rattle.btree.specs.Tree.{pair_keys, twig_keys, with_low}
-use Rattle.file_state.specs.TreeTests.{all_same, has_chain, has_links, is_arm, is_at, is_between, is_branch, is_fan, is_item, is_leaf, is_place}
-use Rattle.file_state.specs.TreeTests.{is_rise, is_root, is_sound, is_whole, same_arm, same_content, same_item, same_place, shows}
+use Rattle.btree.specs.Tree.{Body, HasChain, HasLinks, IsFan, IsSound, IsTree, IsWhole, Shows, Subtree, pivot_of, content_of, high_of, item_of, next_of}
+use Rattle.btree.specs.Tree.{pair_keys, subtree_keys, with_low}
+use Rattle.file_state.specs.TreeTests.{all_same, has_chain, has_links, is_pivot, is_at, is_between, is_branch, is_fan, is_item, is_leaf, is_place}
+use Rattle.file_state.specs.TreeTests.{is_rise, is_root, is_sound, is_whole, same_pivot, same_content, same_item, same_place, shows}
 use Rattle.file_state.proofs.TestLemmas.{◌also◌, implied_tested, le_tested, less_tested, true_tested}
 
 -- ---- lists
@@ -49,15 +49,15 @@ item_same a b =
     Decides-like (same_item a b) (λ h i. record { key = h.0 i; place = h.1 i }) (λ e. (ap (λ (x : Item). x.key) e, ap (λ (x : Item). x.place) e))
     (bytes_eq-Decides a.key b.key also place_same a.place b.place)
 
-arm_same : (a b : Arm) → Decides (same_arm a b) (a ≡ b)
-arm_same a b =
-    Decides-like (same_arm a b) (λ h i. record { key = h.0 i; child = h.1 i }) (λ e. (ap (λ (x : Arm). x.key) e, ap (λ (x : Arm). x.child) e))
+pivot_same : (a b : Pivot) → Decides (same_pivot a b) (a ≡ b)
+pivot_same a b =
+    Decides-like (same_pivot a b) (λ h i. record { key = h.0 i; child = h.1 i }) (λ e. (ap (λ (x : Pivot). x.key) e, ap (λ (x : Pivot). x.child) e))
     (bytes_eq-Decides a.key b.key also Decides-eqb a.child b.child)
 
 content_same : (a b : Content) → Decides (same_content a b) (a ≡ b)
 content_same (leaf xs) (leaf ys) = Decides-like (same_content (leaf xs) (leaf ys)) (λ e i. leaf (e i)) (λ e. cc) (same_tested same_item item_same xs ys)
 content_same (branch xs) (branch ys) =
-    Decides-like (same_content (branch xs) (branch ys)) (λ e i. branch (e i)) (λ e. cc) (same_tested same_arm arm_same xs ys)
+    Decides-like (same_content (branch xs) (branch ys)) (λ e i. branch (e i)) (λ e. cc) (same_tested same_pivot pivot_same xs ys)
 content_same (chain next xs) (chain after ys) =
     Decides-like (same_content (chain next xs) (chain after ys)) (λ h i. chain (h.0 i) (h.1 i))
     (λ e. let same : next ≡ after = cc in let bytes : xs ≡ ys = cc in (same, bytes))
@@ -101,9 +101,9 @@ module _ (s : Store) where
 
   shown_tested : (d : ℕ) (body : Body d) → Decides (shows s d body) (Shows s d body)
   shown_tested zero pairs = each_tested (has_chain s) (HasChain s) chain_tested pairs
-  shown_tested (suc d) twigs =
+  shown_tested (suc d) subtrees =
       each_tested (λ w. is_at s w.page (content_of d w.body) && shows s d w.body) (λ w. IsAt s w.page (content_of d w.body) × Shows s d w.body)
-      (λ w. at_tested w.page (content_of d w.body) also shown_tested d w.body) twigs
+      (λ w. at_tested w.page (content_of d w.body) also shown_tested d w.body) subtrees
 
 -- ---- what a page of the tree may hold
 
@@ -118,10 +118,10 @@ item_tested item =
     Decides-like (is_item item) (λ h. record { size = h.0; place = h.1 }) (λ h. (h.size, h.place))
     (le_tested (item_size item) 1360 also place_tested item.place)
 
-arm_tested : (arm : Arm) → Decides (is_arm arm) (IsArm arm)
-arm_tested arm =
-    Decides-like (is_arm arm) (λ h. record { size = h.0; child = h.1 }) (λ h. (h.size, h.child))
-    (le_tested (arm_size arm) 1360 also Decides-ltb arm.child (2 ^ 32))
+pivot_tested : (pivot : Pivot) → Decides (is_pivot pivot) (IsPivot pivot)
+pivot_tested pivot =
+    Decides-like (is_pivot pivot) (λ h. record { size = h.0; child = h.1 }) (λ h. (h.size, h.child))
+    (le_tested (pivot_size pivot) 1360 also Decides-ltb pivot.child (2 ^ 32))
 
 leaf_tested : (items : List Item) → Decides (is_leaf items) (IsLeaf items)
 leaf_tested items =
@@ -130,17 +130,17 @@ leaf_tested items =
     (Decides-ltb 0 (length items) also by_recursion.Decides-by_and is_item IsItem (list_all is_item) item_tested refl (λ _ _. refl) items
     also true_tested (rise (item_keys items)) also le_tested (total item_size items) 4080)
 
-branch_tested : (arms : List Arm) → Decides (is_branch arms) (IsBranch arms)
-branch_tested arms =
-    Decides-like (is_branch arms) (λ h. record { some = h.0.0.0.0; bare = h.0.0.0.1; each = h.0.0.1; ascending = h.0.1; room = h.1 })
+branch_tested : (pivots : List Pivot) → Decides (is_branch pivots) (IsBranch pivots)
+branch_tested pivots =
+    Decides-like (is_branch pivots) (λ h. record { some = h.0.0.0.0; bare = h.0.0.0.1; each = h.0.0.1; ascending = h.0.1; room = h.1 })
     (λ h. ((((h.some, h.bare), h.each), h.ascending), h.room))
-    (le_tested 2 (length arms) also bytes_eq-Decides (first_key arms) []
-    also by_recursion.Decides-by_and is_arm IsArm (list_all is_arm) arm_tested refl (λ _ _. refl) arms
-    also true_tested (rise (arm_keys arms)) also le_tested (arms_size arms) 4080)
+    (le_tested 2 (length pivots) also bytes_eq-Decides (first_key pivots) []
+    also by_recursion.Decides-by_and is_pivot IsPivot (list_all is_pivot) pivot_tested refl (λ _ _. refl) pivots
+    also true_tested (rise (pivot_keys pivots)) also le_tested (pivots_size pivots) 4080)
 
 whole_tested : (d : ℕ) (body : Body d) → Decides (is_whole d body) (IsWhole d body)
 whole_tested zero pairs = leaf_tested (map item_of pairs)
-whole_tested (suc d) twigs = branch_tested (map arm_of twigs)
+whole_tested (suc d) subtrees = branch_tested (map pivot_of subtrees)
 
 -- ---- order
 
@@ -157,19 +157,19 @@ rise_tested (key ∷ keys) = each_tested (λ k. is_lt (key_cmp key k)) (IsUnder 
 
 fan_tested : {B : Type 0} (lies : List ℕ → Option (List ℕ) → B → Bool) (Lies : List ℕ → Option (List ℕ) → B → Type 0)
     → ((low : List ℕ) (high : Option (List ℕ)) (body : B) → Decides (lies low high body) (Lies low high body))
-    → (high : Option (List ℕ)) (ws : List (Twig B)) → Decides (is_fan lies high ws) (IsFan Lies high ws)
+    → (high : Option (List ℕ)) (ws : List (Subtree B)) → Decides (is_fan lies high ws) (IsFan Lies high ws)
 fan_tested lies Lies each high [] = (λ e. tt, λ h. refl)
 fan_tested lies Lies each high (w ∷ ws) = each w.key (high_of high ws) w.body also fan_tested lies Lies each high ws
 
 sound_tested : (d : ℕ) (low : List ℕ) (high : Option (List ℕ)) (body : Body d) → Decides (is_sound d low high body) (IsSound d low high body)
 sound_tested zero low high pairs =
     rise_tested (pair_keys pairs) also each_tested (is_between low high) (IsBetween low high) (between_tested low high) (pair_keys pairs)
-sound_tested (suc d) low high twigs =
-    Decides-like (is_sound (suc d) low high twigs) (λ h. (h.0.0, h.0.1, h.1)) (λ h. ((h.0, h.1), h.2))
+sound_tested (suc d) low high subtrees =
+    Decides-like (is_sound (suc d) low high subtrees) (λ h. (h.0.0, h.0.1, h.1)) (λ h. ((h.0, h.1), h.2))
     (fan_tested (λ from to body. is_whole d body && is_sound d from to body) (λ from to body. IsWhole d body × IsSound d from to body)
-    (λ from to body. whole_tested d body also sound_tested d from to body) high (with_low low twigs)
-    also rise_tested (twig_keys (with_low low twigs))
-    also each_tested (is_within high) (IsWithin high) (within_tested high) (twig_keys (with_low low twigs)))
+    (λ from to body. whole_tested d body also sound_tested d from to body) high (with_low low subtrees)
+    also rise_tested (subtree_keys (with_low low subtrees))
+    also each_tested (is_within high) (IsWithin high) (within_tested high) (subtree_keys (with_low low subtrees)))
 
 -- ---- a whole tree
 

@@ -5,14 +5,14 @@ use Rattle.std.specs.Prelude.{Err}
 use Rattle.std.specs.List.{flat_map}
 use Rattle.page.specs.Content.{Place, inline, spilled, Item, Content, leaf, branch, chain}
 use Rattle.btree.specs.Keys.{Entry}
-use Rattle.roots.specs.Image.{content_in, sheet_at}
+use Rattle.roots.specs.Image.{content_in, model_at}
 use Rattle.roots.specs.Root.{root_of}
 use Rattle.roots.specs.declared.opening.OpenFault.{OpenFault}
 use Rattle.roots.specs.declared.root.Root.{Root}
 
 -- what a page of the image holds; one that can't be read holds nothing
 abbrev pub page_in : (ℕ → List ℕ) → Root → ℕ → Content
-page_in image root page = content_in (sheet_at image root page)
+page_in image root page = content_in (model_at image root page)
 
 -- the bytes of a chain's page, and behind them those from its next page on, if it names one
 abbrev pub chain_part : Content → (ℕ → List ℕ) → List ℕ
@@ -35,8 +35,8 @@ entry_in pages item = record { key = item.key; value = value_in pages item.place
 -- the entries below a page that holds this, on so many levels below it at most
 abbrev pub entries_below : (ℕ → Content) → ℕ → Content → List Entry
 entries_below pages levels (leaf items) = map (entry_in pages) items
-entries_below pages (suc levels) (branch arms) =
-    flat_map (λ arm. entries_below pages levels (pages arm.child)) arms
+entries_below pages (suc levels) (branch pivots) =
+    flat_map (λ pivot. entries_below pages levels (pages pivot.child)) pivots
 entries_below pages levels other = []
 
 -- A tree has at most 32 levels, so its leaves lie less than 32 below its root. Page 0 holds none.

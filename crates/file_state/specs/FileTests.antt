@@ -5,13 +5,13 @@ use Rattle.std.specs.Prelude.{if◌then◌else◌, List, [], ◌∷◌, ◌++◌
 use Rattle.std.specs.Prelude.{Result, Ok, Err}
 use Rattle.std.specs.List.{list_all}
 use Rattle.std.specs.Str.{bytes_eq}
-use Rattle.page.specs.Format.{Sheet}
+use Rattle.page.specs.Format.{PageModel}
 use Rattle.page.specs.declared.page_fault.PageFault.{PageFault}
 use Rattle.btree.specs.Keys.{times}
 use Rattle.btree.specs.Tree.{Body, pages_of}
 use Rattle.freelist.specs.FreeList.{ListContent, Part, first_page, named_by, room_for, times_in}
 use Rattle.freelist.specs.FreeList.{pages_of as list_pages}
-use Rattle.roots.specs.Image.{list_in, sheet_at, store_of}
+use Rattle.roots.specs.Image.{list_in, model_at, store_of}
 use Rattle.roots.specs.Root.{root_of}
 use Rattle.roots.specs.declared.opening.OpenFault.{OpenFault}
 use Rattle.roots.specs.declared.root.Root.{Root}
@@ -75,40 +75,40 @@ is_free_list contents page_count first count parts =
     && are_once_below page_count (list_pages parts ++ named_by parts)
 
 -- They are the list that the root names, and have each page that its tree doesn't reach.
-abbrev pub has_list : (ℕ → Result Sheet PageFault) → Root → List ℕ → List Part → Bool
-has_list sheets root pages parts =
-    is_free_list (list_in sheets) root.pages root.free_list root.free_count parts
+abbrev pub has_list : (ℕ → Result PageModel PageFault) → Root → List ℕ → List Part → Bool
+has_list models root pages parts =
+    is_free_list (list_in models) root.pages root.free_list root.free_count parts
     && implies (not (root.free_list == 0))
     (are_all_below root.pages (pages ++ (list_pages parts ++ named_by parts)))
 
 -- the parts that the root's list would have
-abbrev pub parts_in : (ℕ → Result Sheet PageFault) → Root → List Part
-parts_in sheets root = parts_from (list_in sheets) root.pages root.free_list
+abbrev pub parts_in : (ℕ → Result PageModel PageFault) → Root → List Part
+parts_in models root = parts_from (list_in models) root.pages root.free_list
 
 -- ---- a file
 
 -- The tree reaches these pages: each once, and a list fits them.
-abbrev pub fits_list : (ℕ → Result Sheet PageFault) → Root → List ℕ → Bool
-fits_list sheets root pages = are_once pages && has_list sheets root pages (parts_in sheets root)
+abbrev pub fits_list : (ℕ → Result PageModel PageFault) → Root → List ℕ → Bool
+fits_list models root pages = are_once pages && has_list models root pages (parts_in models root)
 
 -- the body of so many levels that the root's tree would have
-abbrev pub tree_in : (ℕ → Result Sheet PageFault) → Root → (d : ℕ) → Body d
-tree_in sheets root d =
-    body_in (store_of sheets).page d ((store_of sheets).page root.tree)
+abbrev pub tree_in : (ℕ → Result PageModel PageFault) → Root → (d : ℕ) → Body d
+tree_in models root d =
+    body_in (store_of models).page d ((store_of models).page root.tree)
 
 -- the root's tree has so many levels above its leaves, and all fits
-abbrev pub has_height : (ℕ → Result Sheet PageFault) → Root → ℕ → Bool
-has_height sheets root d =
-    is_root (store_of sheets) root.tree d (tree_in sheets root d)
-    && fits_list sheets root (root.tree ∷ pages_of d (tree_in sheets root d))
+abbrev pub has_height : (ℕ → Result PageModel PageFault) → Root → ℕ → Bool
+has_height models root d =
+    is_root (store_of models) root.tree d (tree_in models root d)
+    && fits_list models root (root.tree ∷ pages_of d (tree_in models root d))
 
 -- the tree is empty, or one of at most 32 levels
-abbrev pub holds_file : (ℕ → Result Sheet PageFault) → Root → Bool
-holds_file sheets root =
-    (root.tree == 0 && fits_list sheets root []) || any_below (has_height sheets root) 32
+abbrev pub holds_file : (ℕ → Result PageModel PageFault) → Root → Bool
+holds_file models root =
+    (root.tree == 0 && fits_list models root []) || any_below (has_height models root) 32
 
 abbrev pub opens_file : (ℕ → List ℕ) → Result Root OpenFault → Bool
-opens_file image (Ok root) = holds_file (sheet_at image root) root
+opens_file image (Ok root) = holds_file (model_at image root) root
 opens_file image (Err fault) = false
 
 -- the image stands for entries

@@ -6,7 +6,7 @@ use Rattle.roots.specs.Image.{StandsFor}
 use Rattle.entries.specs.LawfulState.{IsLawfulState, IsStorable}
 use Rattle.entries.specs.State.{Collection}
 use Rattle.entries.specs.StateEntries.{Spells}
-use Rattle.collections.specs.Holding.{Holds}
+use Rattle.collections.specs.Holding.{HoldsState}
 use Rattle.file_state.specs.Collections.{collections_among, collections_in, held_in}
 use Rattle.file_state.specs.Entries.{entries_in}
 use Rattle.file_state.specs.FileTests.{stands}
@@ -30,7 +30,7 @@ ReadsCollections =
 -- Of an image that holds collections just these are read.
 abbrev pub ReadsHeld : Type 0
 ReadsHeld =
-    (image : ℕ → List ℕ) (cs : List Collection) → Holds image cs → collections_in image ≡ cs
+    (image : ℕ → List ℕ) (cs : List Collection) → HoldsState image cs → collections_in image ≡ cs
 
 -- ---- of any image
 
@@ -44,7 +44,7 @@ HeldIsLawful = (image : ℕ → List ℕ) → IsLawfulState (held_in image)
 
 -- Of an image that holds collections just these are held.
 abbrev pub GivesHeld : Type 0
-GivesHeld = (image : ℕ → List ℕ) (cs : List Collection) → Holds image cs → held_in image ≡ cs
+GivesHeld = (image : ℕ → List ℕ) (cs : List Collection) → HoldsState image cs → held_in image ≡ cs
 
 -- ---- documents as commands store them
 
@@ -63,7 +63,7 @@ StoredIsLawful =
 -- Of an image that holds collections with such documents alone it gives just these.
 abbrev pub GivesStored : Type 0
 GivesStored =
-    (image : ℕ → List ℕ) (cs : List Collection) → Holds image cs → AreStored cs
+    (image : ℕ → List ℕ) (cs : List Collection) → HoldsState image cs → AreStored cs
     → stored_in image ≡ cs
 
 -- ---- whether an image stands for anything
@@ -79,9 +79,9 @@ Stands =
 abbrev pub HoldsSome : Type 0
 HoldsSome =
     (image : ℕ → List ℕ)
-    → Decides (holds_some image) ((cs : List Collection) × Holds image cs × AreStored cs)
+    → Decides (holds_some image) ((cs : List Collection) × HoldsState image cs × AreStored cs)
 
 -- These are then what `stored_in` gives.
 abbrev pub StoredIsHeld : Type 0
 StoredIsHeld =
-    (image : ℕ → List ℕ) → holds_some image ≡ true → Holds image (stored_in image)
+    (image : ℕ → List ℕ) → holds_some image ≡ true → HoldsState image (stored_in image)

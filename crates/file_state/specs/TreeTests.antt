@@ -6,13 +6,14 @@ use Rattle.std.specs.Prelude.{if◌then◌else◌, List, [], ◌∷◌, length, 
 use Rattle.std.specs.List.{list_all}
 use Rattle.std.specs.Ordering.{is_lt}
 use Rattle.std.specs.Str.{bytes_eq}
-use Rattle.page.specs.Content.{Place, inline, spilled, Item, Arm, Content, leaf, branch, chain}
-use Rattle.page.specs.Content.{arm_keys, arm_size, arms_size, first_key, free_list, item_keys}
+use Rattle.page.specs.Content.{Place, inline, spilled, Item, Pivot, Content, leaf, branch, chain}
+use Rattle.page.specs.Content.{pivot_keys, pivot_size, pivots_size, first_key, free_list, item_keys}
 use Rattle.page.specs.Content.{item_size, rise, total}
 use Rattle.btree.specs.Keys.{Pair, is_within, key_cmp}
 use Rattle.btree.specs.Store.{Store}
-use Rattle.btree.specs.Tree.{Body, Twig, arm_of, content_of, high_of, item_of, next_of, pair_keys}
-use Rattle.btree.specs.Tree.{twig_keys, with_low}
+use Rattle.btree.specs.Tree.{Body, Subtree, pivot_of, content_of, high_of, item_of, next_of}
+use Rattle.btree.specs.Tree.{pair_keys}
+use Rattle.btree.specs.Tree.{subtree_keys, with_low}
 use Rattle.file_state.specs.Entries.{value_in}
 use Rattle.file_state.specs.StateTests.{all_pairs, implies}
 
@@ -44,12 +45,12 @@ pair_in pages item = record {
 abbrev pub body_in : (ℕ → Content) → (d : ℕ) → Content → Body d
 body_in pages zero (leaf items) = map (pair_in pages) items
 body_in pages zero other = []
-body_in pages (suc d) (branch arms) =
-    map (λ arm. record {
-      key = arm.key;
-      page = arm.child;
-      body = body_in pages d (pages arm.child);
-    }) arms
+body_in pages (suc d) (branch pivots) =
+    map (λ pivot. record {
+      key = pivot.key;
+      page = pivot.child;
+      body = body_in pages d (pages pivot.child);
+    }) pivots
 body_in pages (suc d) other = []
 
 -- ---- equal contents
@@ -68,12 +69,12 @@ same_place place other = false
 abbrev pub same_item : Item → Item → Bool
 same_item item other = bytes_eq item.key other.key && same_place item.place other.place
 
-abbrev pub same_arm : Arm → Arm → Bool
-same_arm arm other = bytes_eq arm.key other.key && arm.child == other.child
+abbrev pub same_pivot : Pivot → Pivot → Bool
+same_pivot pivot other = bytes_eq pivot.key other.key && pivot.child == other.child
 
 abbrev pub same_content : Content → Content → Bool
 same_content (leaf items) (leaf others) = all_same same_item items others
-same_content (branch arms) (branch others) = all_same same_arm arms others
+same_content (branch pivots) (branch others) = all_same same_pivot pivots others
 same_content (chain next bytes) (chain after others) = next == after && bytes_eq bytes others
 same_content (free_list next pages) (free_list after others) =
     next == after && bytes_eq pages others
@@ -98,8 +99,8 @@ has_chain s x = implies (nat_lt 0 (length x.links)) (has_links s x.links x.value
 -- the pages below a body hold it
 abbrev pub shows : Store → (d : ℕ) → Body d → Bool
 shows s zero pairs = list_all (has_chain s) pairs
-shows s (suc d) twigs =
-    list_all (λ w. is_at s w.page (content_of d w.body) && shows s d w.body) twigs
+shows s (suc d) subtrees =
+    list_all (λ w. is_at s w.page (content_of d w.body) && shows s d w.body) subtrees
 
 -- ---- what a page of the tree may hold
 
@@ -110,8 +111,8 @@ is_place (spilled len page) = nat_lt 330 len && nat_lt len (2 ^ 32) && nat_lt pa
 abbrev pub is_item : Item → Bool
 is_item item = nat_le (item_size item) 1360 && is_place item.place
 
-abbrev pub is_arm : Arm → Bool
-is_arm arm = nat_le (arm_size arm) 1360 && nat_lt arm.child (2 ^ 32)
+abbrev pub is_pivot : Pivot → Bool
+is_pivot pivot = nat_le (pivot_size pivot) 1360 && nat_lt pivot.child (2 ^ 32)
 
 -- one cell or more, in order, that find room
 abbrev pub is_leaf : List Item → Bool
@@ -120,14 +121,14 @@ is_leaf items =
     && nat_le (total item_size items) 4080
 
 -- two children or more, in order, that find room
-abbrev pub is_branch : List Arm → Bool
-is_branch arms =
-    nat_le 2 (length arms) && bytes_eq (first_key arms) [] && list_all is_arm arms
-    && rise (arm_keys arms) && nat_le (arms_size arms) 4080
+abbrev pub is_branch : List Pivot → Bool
+is_branch pivots =
+    nat_le 2 (length pivots) && bytes_eq (first_key pivots) [] && list_all is_pivot pivots
+    && rise (pivot_keys pivots) && nat_le (pivots_size pivots) 4080
 
 abbrev pub is_whole : (d : ℕ) → Body d → Bool
 is_whole zero pairs = is_leaf (map item_of pairs)
-is_whole (suc d) twigs = is_branch (map arm_of twigs)
+is_whole (suc d) subtrees = is_branch (map pivot_of subtrees)
 
 -- ---- order
 
@@ -140,7 +141,7 @@ is_rise keys = all_pairs (λ a b. is_lt (key_cmp a b)) keys
 
 -- each child passes between its own key and the next child's
 abbrev pub is_fan : {B : Type 0} → (List ℕ → Option (List ℕ) → B → Bool) → Option (List ℕ)
-    → List (Twig B) → Bool
+    → List (Subtree B) → Bool
 is_fan lies high [] = true
 is_fan lies high (w ∷ ws) = lies w.key (high_of high ws) w.body && is_fan lies high ws
 
@@ -148,10 +149,10 @@ is_fan lies high (w ∷ ws) = lies w.key (high_of high ws) w.body && is_fan lies
 abbrev pub is_sound : (d : ℕ) → List ℕ → Option (List ℕ) → Body d → Bool
 is_sound zero low high pairs =
     is_rise (pair_keys pairs) && list_all (is_between low high) (pair_keys pairs)
-is_sound (suc d) low high twigs =
-    is_fan (λ from to body. is_whole d body && is_sound d from to body) high (with_low low twigs)
-    && is_rise (twig_keys (with_low low twigs))
-    && list_all (is_within high) (twig_keys (with_low low twigs))
+is_sound (suc d) low high subtrees =
+    is_fan (λ from to body. is_whole d body && is_sound d from to body) high (with_low low subtrees)
+    && is_rise (subtree_keys (with_low low subtrees))
+    && list_all (is_within high) (subtree_keys (with_low low subtrees))
 
 -- ---- a whole tree
 

@@ -56,8 +56,8 @@ pins_stay : (pages : List ℕ) (old new : Book) → TakesAll pages old new → n
 pins_stay [] old new same = ap (λ (b : Book). b.pins) same
 pins_stay (p ∷ pages) old new takes = pins_stay pages (taken p old) new takes.1
 
-count_stays : (pages : List ℕ) (old new : Book) → TakesAll pages old new → new.full_takes ≡ old.full_takes
-count_stays [] old new same = ap (λ (b : Book). b.full_takes) same
+count_stays : (pages : List ℕ) (old new : Book) → TakesAll pages old new → new.failed_allocations ≡ old.failed_allocations
+count_stays [] old new same = ap (λ (b : Book). b.failed_allocations) same
 count_stays (p ∷ pages) old new takes = count_stays pages (taken p old) new takes.1
 
 length_stays : (pages : List ℕ) (old new : Book) → TakesAll pages old new → length new.states ≡ length old.states
@@ -209,12 +209,12 @@ module _ (page_count version : ℕ) (pages named : List ℕ) (old new : Book) (m
       ap (λ (ws : List Retirement). ws ++ kept new.pins (retired_in new.turn)) none_now
       ∙ ap (λ (ps : List ℕ). kept ps (retired_in new.turn)) pins_now ∙ kept_none (retired_in new.turn)
 
-  pub tells_the_book : committed version new ≡ record (opened_by named count (length old.states) version) { full_takes = old.full_takes }
+  pub tells_the_book : committed version new ≡ record (opened_by named count (length old.states) version) { failed_allocations = old.failed_allocations }
   tells_the_book = λ i. record {
     states = states_are i;
     waiting = waiting_is i;
     turn = [];
     pins = pins_now i;
     version = version;
-    full_takes = count_stays pages old new made.takes i;
+    failed_allocations = count_stays pages old new made.takes i;
   }

@@ -217,5 +217,5 @@ module _ (page_count limit version : ℕ) (in_use : List ℕ) (parts : List Part
         turn = [];
         pins = [];
         version = version;
-        full_takes = 0;
+        failed_allocations = 0;
       }) (used_is (in_use ++ pages_of parts) (replicate limit states.Free) ∙ same_states ∙ sym (free_is (0 ∷ named_by parts) base))

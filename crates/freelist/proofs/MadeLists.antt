@@ -6,7 +6,7 @@ use Rattle.std.proofs.lemmas.Bool.Decides.{nat_tests}
 use Rattle.std.proofs.lemmas.Bool.{cases_eq, cases_lt}
 use Rattle.std.proofs.lemmas.List.{get_or-set_other, get_or_default, length-map}
 use Rattle.freelist.specs.Book.{Book, is_in_use, is_used_state, least_free, taken}
-use Rattle.freelist.specs.FreeList.{AreOnceBelow, Holds, IsFreeList, IsPartition, ListContent, Part, first_page, named_by, pages_of, room_for, times_in}
+use Rattle.freelist.specs.FreeList.{AreOnceBelow, HoldsList, IsFreeList, IsPartition, ListContent, Part, first_page, named_by, pages_of, room_for, times_in}
 use Rattle.freelist.specs.FreeList.{written}
 use Rattle.freelist.specs.ListLaws.{GivesBack, MadeRows, used_below}
 use Rattle.freelist.specs.ListReading.{ReadsList}
@@ -176,11 +176,11 @@ module _ (page_count : ℕ) (pages named : List ℕ) (old new : Book) (made : Is
 
   -- ---- reading it
 
-  pub there : (contents : ℕ → Option ListContent) → Holds contents (written pages named)
+  pub there : (contents : ℕ → Option ListContent) → HoldsList contents (written pages named)
       → IsFreeList contents count (first_page (written pages named)) (length named) (written pages named)
   there contents holds = (written_is_read contents count pages named made.room once holds).list
 
-  pub reads_back : (contents : ℕ → Option ListContent) → Holds contents (written pages named)
+  pub reads_back : (contents : ℕ → Option ListContent) → HoldsList contents (written pages named)
       → (result : Result FreeList ListFault) → ReadsList contents count (first_page (written pages named)) (length named) result
       → GivesBack pages named result
   reads_back contents holds (Ok list) read =
@@ -193,7 +193,7 @@ module _ (page_count : ℕ) (pages named : List ℕ) (old new : Book) (made : Is
   reads_back contents holds (Err fault) read = λ damaged. read damaged (written pages named) (there contents holds)
 
 holds_each : (contents : ℕ → Option ListContent) (parts : List Part)
-    → ((at : ℕ) → at < length parts → contents (get_or (pages_of parts) at 0) ≡ content_at parts at) → Holds contents parts
+    → ((at : ℕ) → at < length parts → contents (get_or (pages_of parts) at 0) ≡ content_at parts at) → HoldsList contents parts
 holds_each contents [] each = tt
 holds_each contents (part ∷ rest) each =
     (each 0 (omega arith), holds_each contents rest (λ at inside. each (suc at) (omega (arith, inside))))

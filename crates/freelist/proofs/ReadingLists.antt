@@ -3,7 +3,7 @@ use Rattle.std.proofs.Common.{◌≡◌, ◌≤◌, ◌+◌, ℕ, Bool, true, Li
 use Rattle.std.specs.Prelude.{◌≢◌, ◌==◌, Option}
 use Rattle.std.proofs.lemmas.Bool.Decides.{nat_tests}
 use Rattle.std.proofs.lemmas.Option.{same_Some}
-use Rattle.freelist.specs.FreeList.{ListContent, Part, IsFreeList, Holds, first_page, pages_of, named_by, times_in, room_for}
+use Rattle.freelist.specs.FreeList.{ListContent, Part, IsFreeList, HoldsList, first_page, pages_of, named_by, times_in, room_for}
 use Rattle.freelist.specs.ListReading.{free_in, IsListOn, IsStep, StepsOn, ReadsList}
 use Rattle.freelist.specs.declared.list.FreeList.{FreeList}
 use Rattle.freelist.specs.declared.list.Reading.{Reading}
@@ -15,9 +15,9 @@ use Rattle.freelist.proofs.Marking.{times_in-append}
 
 -- These parts begin at the first page. The first of them are on these pages and name these; the rest begins at the next page.
 pub record IsCut (contents : ℕ → Option ListContent) (first next : ℕ) (pages named : List ℕ) (parts rest : List Part) : Type 0 where
-  pub holds : Holds contents parts
+  pub holds : HoldsList contents parts
   pub begins : first_page parts ≡ first
-  pub rest_holds : Holds contents rest
+  pub rest_holds : HoldsList contents rest
   pub rest_begins : first_page rest ≡ next
   pub pages_are : pages_of parts ≡ pages ++ pages_of rest
   pub named_are : named_by parts ≡ named ++ named_by rest
@@ -33,7 +33,7 @@ pub record IsLed (contents : ℕ → Option ListContent) (first next : ℕ) (pag
 -- Every rest that the pages hold makes a list with what was read, and every list that is there goes on from what was read.
 pub record SoFar (contents : ℕ → Option ListContent) (page_count first next : ℕ) (seen : List Bool) (pages named : List ℕ) : Type 0 where
   pub marks : (n : ℕ) → (times_in n pages + times_in n named) + free_in seen n ≡ room_for page_count n
-  pub built : (rest : List Part) → Holds contents rest → first_page rest ≡ next → IsBuilt contents first next pages named rest
+  pub built : (rest : List Part) → HoldsList contents rest → first_page rest ≡ next → IsBuilt contents first next pages named rest
   pub led : (count : ℕ) (parts : List Part) → IsFreeList contents page_count first count parts → IsLed contents first next pages named parts
 
 pub starts : (contents : ℕ → Option ListContent) (page_count first : ℕ) (seen : List Bool)
@@ -57,9 +57,9 @@ record IsHead (contents : ℕ → Option ListContent) (page : ℕ) (rest : List 
   is : rest ≡ part ∷ more
   page_is : part.page ≡ page
   holds : contents page ≡ Some (record { next = first_page more; named = part.named })
-  more_holds : Holds contents more
+  more_holds : HoldsList contents more
 
-head : (contents : ℕ → Option ListContent) (page : ℕ) (rest : List Part) → page ≢ 0 → Holds contents rest → first_page rest ≡ page
+head : (contents : ℕ → Option ListContent) (page : ℕ) (rest : List Part) → page ≢ 0 → HoldsList contents rest → first_page rest ≡ page
     → IsHead contents page rest
 head contents page [] some holds begins = absurd (some (sym begins))
 head contents page (part ∷ more) some holds begins = record {
@@ -73,7 +73,7 @@ head contents page (part ∷ more) some holds begins = record {
 
 module _ (contents : ℕ → Option ListContent) (page_count first page next : ℕ) (seen : List Bool) (pages named here : List ℕ)
     (so : SoFar contents page_count first page seen pages named) (some : page ≢ 0) where
-  on_built : contents page ≡ Some (record { next = next; named = here }) → (rest : List Part) → Holds contents rest → first_page rest ≡ next
+  on_built : contents page ≡ Some (record { next = next; named = here }) → (rest : List Part) → HoldsList contents rest → first_page rest ≡ next
       → IsBuilt contents first next (pages ++ page ∷ []) (named ++ here) rest
   on_built there rest holds begins =
       let whole : List Part = record { page = page; named = here } ∷ rest in

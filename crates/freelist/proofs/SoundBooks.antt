@@ -328,7 +328,7 @@ unretired_with s none [] pages are = are
 unretired_with s none (p ∷ ps) pages are = unretired_with s none ps (set pages p s) (unretired_set s none pages p are)
 
 new_sound : (pages other : List PageState) (version : ℕ) → pages ≡ other → IsUnretired other
-    → IsSound (record { states = pages; waiting = []; turn = []; pins = []; version = version; full_takes = 0 })
+    → IsSound (record { states = pages; waiting = []; turn = []; pins = []; version = version; failed_allocations = 0 })
 new_sound pages other version same are = record {
   listed = λ page. omega (arith, are page, ap (λ (ps : List PageState). retired_count (get_or ps page states.Free)) same);
   needed = refl;

@@ -40,21 +40,28 @@ after_takes [] old new same = sym same
 after_takes (p ∷ pages) old new takes =
     ap (λ (found : Option ℕ). after (asked_for pages) (given found old)) takes.0 ∙ after_takes pages (taken p old) new takes.1
 
-same_full_takes : (pages : List ℕ) (old new : Book) → TakesAll pages old new → new.full_takes ≡ old.full_takes
-same_full_takes [] old new same = ap (λ (b : Book). b.full_takes) same
-same_full_takes (p ∷ pages) old new takes = same_full_takes pages (taken p old) new takes.1
+same_failed_allocations : (pages : List ℕ) (old new : Book) → TakesAll pages old new → new.failed_allocations ≡ old.failed_allocations
+same_failed_allocations [] old new same = ap (λ (b : Book). b.failed_allocations) same
+same_failed_allocations (p ∷ pages) old new takes = same_failed_allocations pages (taken p old) new takes.1
 
 pub goes_back : (pages : List ℕ) (old new : Book) → TakesAll pages old new → GoesBack old old new
 goes_back pages old new takes =
     ap (undone (length old.turn)) (sym (after_takes pages old new takes))
     ∙ undoing_leads_back old (asked_for pages)
-    ∙ (λ i. record old { full_takes = (ap (λ (b : Book). b.full_takes) (after_takes pages old new takes) ∙ same_full_takes pages old new takes) i })
+    ∙ (λ i. record old {
+      failed_allocations = (ap (λ (b : Book). b.failed_allocations) (after_takes pages old new takes)
+          ∙ same_failed_allocations pages old new takes) i;
+    })
 
 pub refused_goes_back : (pages : List ℕ) (old new : Book) → TakesAll pages old new → GoesBack old (refused old) (refused new)
-refused_goes_back pages old new takes = ap (λ (b : Book). record b { full_takes = (refused new).full_takes }) (goes_back pages old new takes) ∙ same
+refused_goes_back pages old new takes =
+    ap (λ (b : Book). record b { failed_allocations = (refused new).failed_allocations }) (goes_back pages old new takes) ∙ same
   where
-    same : record old { full_takes = (refused new).full_takes } ≡ refused old
-    same = λ i. record old { full_takes = (refused (record old { full_takes = same_full_takes pages old new takes i })).full_takes }
+    same : record old { failed_allocations = (refused new).failed_allocations } ≡ refused old
+    same = λ i. record old {
+      failed_allocations =
+          (refused (record old { failed_allocations = same_failed_allocations pages old new takes i })).failed_allocations;
+    }
 
 -- ---- how many pages are free
 

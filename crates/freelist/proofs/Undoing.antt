@@ -68,14 +68,15 @@ after_follows b c [] f = f
 after_follows b c (asks ∷ calls) f = after_follows b (given (least_free c.states) c) calls (given_follows b c f (least_free c.states) refl)
 after_follows b c (retire p v ∷ calls) f = after_follows b (retired p v c) calls (retired_follows b c f p v)
 
-leads_back : (b c : Book) → Follows b c → undone (length b.turn) c ≡ record b { full_takes = c.full_takes }
+leads_back : (b c : Book) → Follows b c → undone (length b.turn) c ≡ record b { failed_allocations = c.failed_allocations }
 leads_back b c f =
     let rest : drop (length b.turn) c.turn ≡ f.more = ap (drop (length b.turn)) f.noted ∙ drop_at b.turn f.more (length b.turn) refl in
     let front : take (length b.turn) c.turn ≡ b.turn = ap (take (length b.turn)) f.noted ∙ take_at b.turn f.more (length b.turn) refl in
     let states : rewind (drop (length b.turn) c.turn) c.states ≡ b.states = ap (λ (xs : List Change). rewind xs c.states) rest ∙ f.back in
-    λ i. record { states = states i; waiting = f.waiting i; turn = front i; pins = f.pins i; version = f.version i; full_takes = c.full_takes }
+    λ i. record { states = states i; waiting = f.waiting i; turn = front i; pins = f.pins i; version = f.version i; failed_allocations = c.failed_allocations }
 
-pub undoing_leads_back : (b : Book) (calls : List Call) → undone (length b.turn) (after calls b) ≡ record b { full_takes = (after calls b).full_takes }
+pub undoing_leads_back : (b : Book) (calls : List Call) → undone (length b.turn) (after calls b) ≡ record b
+    { failed_allocations = (after calls b).failed_allocations }
 undoing_leads_back b calls =
     leads_back b (after calls b)
     (after_follows b b calls (record { more = []; noted = sym (append-nil b.turn); back = refl; waiting = refl; pins = refl; version = refl }))

@@ -4,7 +4,7 @@ use Rattle.std.specs.Prelude.{◌==◌, Option}
 use Rattle.std.proofs.lemmas.Bool.Decides.{nat_tests}
 use Rattle.std.proofs.lemmas.Option.{same_Some}
 use Rattle.std.proofs.lemmas.List.{take-append-drop}
-use Rattle.freelist.specs.FreeList.{AreOnceBelow, Holds, IsFreeList, ListContent, Part, first_page, list_pages, named_by, pages_of, times_in, written}
+use Rattle.freelist.specs.FreeList.{AreOnceBelow, HoldsList, IsFreeList, ListContent, Part, first_page, list_pages, named_by, pages_of, times_in, written}
 use Rattle.freelist.specs.ListLaws.{IsRead}
 use Rattle.freelist.proofs.Marking.{times_in-append}
 
@@ -23,7 +23,7 @@ written_named (page ∷ pages) named h =
     ∙ take-append-drop 1019 named
 
 pub written_is_read : (contents : ℕ → Option ListContent) (page_count : ℕ) (pages named : List ℕ) → length named ≤ 1019 * length pages
-    → AreOnceBelow page_count (pages ++ named) → Holds contents (written pages named) → IsRead contents page_count pages named
+    → AreOnceBelow page_count (pages ++ named) → HoldsList contents (written pages named) → IsRead contents page_count pages named
 written_is_read contents page_count pages named room once holds =
     let pages_are : pages_of (written pages named) ≡ pages = written_pages pages named in
     let named_are : named_by (written pages named) ≡ named = written_named pages named room in
@@ -58,7 +58,7 @@ no_zero part rest is none =
 rest_none : (part : Part) (rest : List Part) → times_in 0 (pages_of (part ∷ rest)) ≡ 0 → times_in 0 (pages_of rest) ≡ 0
 rest_none part rest none = omega (arith, none)
 
-same_parts : (contents : ℕ → Option ListContent) (parts others : List Part) → Holds contents parts → Holds contents others
+same_parts : (contents : ℕ → Option ListContent) (parts others : List Part) → HoldsList contents parts → HoldsList contents others
     → times_in 0 (pages_of parts) ≡ 0 → times_in 0 (pages_of others) ≡ 0 → first_page parts ≡ first_page others → parts ≡ others
 same_parts contents [] [] h h' none none' first = refl
 same_parts contents [] (o ∷ others) h h' none none' first = absurd (no_zero o others (sym first) none')

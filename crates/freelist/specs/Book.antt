@@ -23,7 +23,7 @@ pub record Book : Type 0 where
   -- the version that was committed last
   pub version : ℕ
   -- how often a page was asked for and none was free
-  pub full_takes : ℕ
+  pub failed_allocations : ℕ
 
 abbrev pub is_free_state : PageState → Bool
 is_free_state states.Free = true
@@ -64,7 +64,7 @@ taken page b = record b {
 }
 
 abbrev pub refused : Book → Book
-refused b = record b { full_takes = min (b.full_takes + 1) (2 ^ 64 - 1) }
+refused b = record b { failed_allocations = min (b.failed_allocations + 1) (2 ^ 64 - 1) }
 
 -- what a take gives: the least free page, or none where none is free
 abbrev pub Takes : Option ℕ → Book → Book → Type 0
@@ -170,7 +170,7 @@ opened in_use count version = record {
   turn = [];
   pins = [];
   version = version;
-  full_takes = 0;
+  failed_allocations = 0;
 }
 
 -- ---- what serves the prover alone

@@ -54,12 +54,12 @@ abbrev pub book_code : Coded Book
 book_code = code_by Parts
     (coded× (coded× (coded_list state_code) (coded_list retirement_code))
     (coded× (coded× (coded_list change_code) (coded_list coded_ℕ)) (coded× coded_ℕ coded_ℕ)))
-    (λ b. ((b.states, b.waiting), ((b.turn, b.pins), (b.version, b.full_takes))))
+    (λ b. ((b.states, b.waiting), ((b.turn, b.pins), (b.version, b.failed_allocations))))
     (λ x. record {
       states = x.0.0;
       waiting = x.0.1;
       turn = x.1.0.0;
       pins = x.1.0.1;
       version = x.1.1.0;
-      full_takes = x.1.1.1;
+      failed_allocations = x.1.1.1;
     }) (λ _. refl)

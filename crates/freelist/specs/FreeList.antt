@@ -33,11 +33,11 @@ first_page (part ∷ rest) = part.page
 
 -- These parts are what the pages hold: each one leads to the next. A page that is no page of a list
 -- has no content.
-abbrev pub Holds : (ℕ → Option ListContent) → List Part → Type 0
-Holds contents [] = Unit {0}
-Holds contents (part ∷ rest) =
+abbrev pub HoldsList : (ℕ → Option ListContent) → List Part → Type 0
+HoldsList contents [] = Unit {0}
+HoldsList contents (part ∷ rest) =
     (contents part.page ≡ Some (record { next = first_page rest; named = part.named }))
-    × Holds contents rest
+    × HoldsList contents rest
 
 -- ---- numbers of pages
 
@@ -59,7 +59,7 @@ AreOnceBelow page_count pages = (page : ℕ) → times_in page pages ≤ room_fo
 pub record IsFreeList (contents : ℕ → Option ListContent) (page_count first count : ℕ)
     (parts : List Part) : Type 0 where
   pub begins : first_page parts ≡ first
-  pub holds : Holds contents parts
+  pub holds : HoldsList contents parts
   pub counted : length (named_by parts) ≡ count
   pub once : AreOnceBelow page_count (pages_of parts ++ named_by parts)
 
@@ -99,5 +99,5 @@ opened_by named page_count limit version = record {
   turn = [];
   pins = [];
   version = version;
-  full_takes = 0;
+  failed_allocations = 0;
 }

@@ -4,7 +4,8 @@ use Rattle.std.specs.Prelude.{replicate, drop, ◌==◌, if◌then◌else◌, Op
 use Rattle.std.specs.Prelude.{suc, true, ◌&&◌, get_or, Result, MatchResult}
 use Rattle.freelist.specs.Book.{Book, committed, first_free, is_free, is_in_use, least_free}
 use Rattle.freelist.specs.Book.{opened, taken}
-use Rattle.freelist.specs.FreeList.{AreOnceBelow, Holds, IsFreeList, IsPartition, ListContent, Part}
+use Rattle.freelist.specs.FreeList.{AreOnceBelow, HoldsList, IsFreeList, IsPartition}
+use Rattle.freelist.specs.FreeList.{ListContent, Part}
 use Rattle.freelist.specs.FreeList.{first_page, list_pages, named_by, opened_by, pages_of}
 use Rattle.freelist.specs.FreeList.{times_in, written}
 use Rattle.freelist.specs.ListReading.{ReadsList}
@@ -27,7 +28,7 @@ pub record IsRead (contents : ℕ → Option ListContent) (page_count : ℕ)
 abbrev pub WrittenIsRead : Type 0
 WrittenIsRead = (contents : ℕ → Option ListContent) (page_count : ℕ) (pages named : List ℕ)
     → length named ≤ 1019 * length pages → AreOnceBelow page_count (pages ++ named)
-    → Holds contents (written pages named) → IsRead contents page_count pages named
+    → HoldsList contents (written pages named) → IsRead contents page_count pages named
 
 -- a list on as many pages as it needs finds room there
 abbrev pub PagesSuffice : Type 0
@@ -104,7 +105,8 @@ MadeTellsTheBook = (page_count version : ℕ) (pages named : List ℕ) (old new 
     → let count = count_with page_count pages in count ≤ length old.states
     → ((page : ℕ) → is_in_use old.states page ≡ true → (0 < page) × (page < count))
     → committed version new
-    ≡ record (opened_by named count (length old.states) version) { full_takes = old.full_takes }
+    ≡ record (opened_by named count (length old.states) version)
+    { failed_allocations = old.failed_allocations }
 
 -- ---- worked rows
 
@@ -145,7 +147,7 @@ book_with pages = record {
   turn = [];
   pins = [];
   version = 1;
-  full_takes = 0;
+  failed_allocations = 0;
 }
 
 -- Page 2 is free, and page 3 is retired.

@@ -22,4 +22,4 @@ after (retire page version ∷ calls) b = after calls (retired page version b)
 abbrev pub UndoingLeadsBack : Type 0
 UndoingLeadsBack = (b : Book) (calls : List Call)
     → undone (length b.turn) (after calls b)
-    ≡ record b { full_takes = (after calls b).full_takes }
+    ≡ record b { failed_allocations = (after calls b).failed_allocations }

@@ -29,7 +29,7 @@ pub struct FreePages {
     turn: Vec<Change>,
     pins: Vec<u64>,
     version: u64,
-    full_takes: u64,
+    failed_allocations: u64,
 }
 
 impl Model for FreePages {
@@ -47,7 +47,7 @@ impl Model for FreePages {
       turn = a.turn.items;
       pins = a.pins.items;
       version = a.version;
-      full_takes = a.full_takes;
+      failed_allocations = a.failed_allocations;
     } };
 
     ghost invariant = { λ a.
@@ -75,7 +75,7 @@ impl FreePages {
             turn: Vec::new(alloc),
             pins: Vec::new(alloc),
             version,
-            full_takes: 0,
+            failed_allocations: 0,
         })
     }
 
@@ -103,7 +103,7 @@ impl FreePages {
             turn: Vec::new(alloc),
             pins: Vec::new(alloc),
             version,
-            full_takes: 0,
+            failed_allocations: 0,
         })
     }
 
@@ -113,7 +113,7 @@ impl FreePages {
         ensures err { OnErr result (self.new ≡ self.old) }
     {
         let Some(page) = self.pages.least_free() else {
-            self.full_takes = self.full_takes.saturating_add(1);
+            self.failed_allocations = self.failed_allocations.saturating_add(1);
             return Ok(None);
         };
         note(&mut self.turn, &mut self.waiting, Change::Taken { page })?;
@@ -305,9 +305,9 @@ impl FreePages {
     }
 
     /// How often a page was asked for and none was free. At its greatest value it stays.
-    pub fn full_takes(&self) -> u64
-        ensures { result ≡ self.now.full_takes }
+    pub fn failed_allocations(&self) -> u64
+        ensures { result ≡ self.now.failed_allocations }
     {
-        self.full_takes
+        self.failed_allocations
     }
 }

@@ -139,12 +139,12 @@ stands_free n ss new inside stands quiet m any within e = at (same_or_not m n)
 -- a socket that changes begins none
 pub stands_set : (alone : Option ℕ) (ss : List Socket) (n : ℕ) (any new : Socket) → n < length ss → (has_begun new ≡ true → has_begun (get_or ss n any) ≡ true)
     → StandsAlone alone ss → StandsAlone alone (set ss n new)
-stands_set alone ss n any new inside goes stands m d within e = at (same_or_not m n)
+stands_set alone ss n any new inside continues stands m d within e = at (same_or_not m n)
   where
     at : (m ≡ n) ⊎ (m ≢ n) → alone ≡ Some m
     at (inl same) =
         let there : get_or (set ss n new) m d ≡ new = ap (λ (i : ℕ). get_or (set ss n new) i d) same ∙ get_or-set_same ss n new d inside in
-        stands n any inside (goes (ap has_begun (sym there) ∙ e)) ∙ ap Some (sym same)
+        stands n any inside (continues (ap has_begun (sym there) ∙ e)) ∙ ap Some (sym same)
     at (inr apart) =
         stands m d (subst (λ (l : ℕ). m < l) (length-set ss n new) within) (ap has_begun (sym (get_or-set_other ss n m new d apart)) ∙ e)
 
@@ -165,7 +165,7 @@ stands_given alone len ss given new stands same fits is =
 pub stands_back : (alone : Option ℕ) (loans : List (Option Loan)) (owner : ℕ) (ss new : List Socket) → AreTied loans ss
     → OthersStay ss (borrower (loan_at loans owner)) new → GoesOnAlone ss (borrower (loan_at loans owner)) new → StandsAlone alone ss
     → StandsAlone alone new
-stands_back alone loans owner ss new tied stay goes stands n any within e = at (borrower (loan_at loans owner)) refl
+stands_back alone loans owner ss new tied stay continues stands n any within e = at (borrower (loan_at loans owner)) refl
   where
     inside : n < length ss
     inside = subst (λ (l : ℕ). n < l) stay.length within
@@ -174,7 +174,7 @@ stands_back alone loans owner ss new tied stay goes stands n any within e = at (
     other apart = stands n any inside (ap has_begun (sym (stay.others n any apart)) ∙ e)
 
     its : borrower (loan_at loans owner) ≡ Some n → alone ≡ Some n
-    its is = stands n any inside (asked_begun (get_or ss n any) (tied.asked owner n any is) (goes n any is inside e))
+    its is = stands n any inside (asked_begun (get_or ss n any) (tied.asked owner n any is) (continues n any is inside e))
 
     which : (m : ℕ) → borrower (loan_at loans owner) ≡ Some m → (n ≡ m) ⊎ (n ≢ m) → alone ≡ Some n
     which m is (inl same) = its (is ∙ ap Some (sym same))
@@ -187,13 +187,13 @@ stands_back alone loans owner ss new tied stay goes stands n any within e = at (
 pub stands_written : (alone : Option ℕ) (loans : List (Option Loan)) (owner len : ℕ) (ss given new : List Socket) → AreTied loans ss
     → given ≡ ss → length given ≡ len → OthersStay given (borrower (loan_at loans owner)) new → GoesOnAlone given (borrower (loan_at loans owner)) new
     → StandsAlone alone ss → StandsAlone alone (take len (new ++ drop (length new) ss))
-stands_written alone loans owner len ss given new tied same fits stay goes stands =
+stands_written alone loans owner len ss given new tied same fits stay continues stands =
     let others : OthersStay ss (borrower (loan_at loans owner)) new =
     subst (λ (os : List Socket). OthersStay os (borrower (loan_at loans owner)) new) same stay in
-    let on : GoesOnAlone ss (borrower (loan_at loans owner)) new =
-    subst (λ (os : List Socket). GoesOnAlone os (borrower (loan_at loans owner)) new) same goes in
+    let extends : GoesOnAlone ss (borrower (loan_at loans owner)) new =
+    subst (λ (os : List Socket). GoesOnAlone os (borrower (loan_at loans owner)) new) same continues in
     subst (StandsAlone alone) (sym (written len ss new others.length (ap length (sym same) ∙ fits)))
-    (stands_back alone loans owner ss new tied others on stands)
+    (stands_back alone loans owner ss new tied others extends stands)
 
 -- ---- between its questions
 

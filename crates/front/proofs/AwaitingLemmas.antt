@@ -13,7 +13,7 @@ use Rattle.front.specs.Cursors.{counts_of}
 use Rattle.front.specs.Lending.{borrower, count_at, is_at_rest, least_used, loan_at, with_one}
 use Rattle.front.specs.OneSocket.{connection_for, owner_of, owner_or_least}
 use Rattle.front.specs.Tying.{is_asked}
-use Rattle.front.specs.Unread.{HoldQuestions, Holds, HoldsFor}
+use Rattle.front.specs.Unread.{HoldQuestions, HoldsUnread, HoldsFor}
 use Rattle.front.specs.declared.job.Question.{Question}
 use Rattle.front.specs.declared.lending.Loan.{Loan}
 use Rattle.front.specs.declared.open_cursors.OpenCursor.{OpenCursor}
@@ -34,7 +34,7 @@ borrows (Some m) n = at (same_or_not m n)
 -- what was asked last stands alone on each connection that is lent to the socket
 abbrev pub Awaits : ℕ → List (Option Loan) → List Connection → Option Pairs → Type 0
 Awaits n loans connections question = (id : ℕ) → borrower (loan_at loans id) ≡ Some n
-    → (q : Pairs) × (question ≡ Some q) × Holds (question_bytes q) (connection_in connections id)
+    → (q : Pairs) × (question ≡ Some q) × HoldsUnread (question_bytes q) (connection_in connections id)
 
 -- where it wasn't asked, none is
 abbrev pub IsFree : ℕ → List (Option Loan) → Socket → Type 0
@@ -65,13 +65,13 @@ awaits_still n loans after before now question owner loan command other rest len
     at (borrower_after loans owner loan id n (ap (λ (ls : List (Option Loan)). borrower (loan_at ls id)) (sym lent) ∙ e))
   where
     at : ((id ≡ owner) × (loan.socket ≡ Some n)) ⊎ (borrower (loan_at loans id) ≡ Some n)
-        → (q : Pairs) × (question ≡ Some q) × Holds (question_bytes q) (connection_in now.connections id)
+        → (q : Pairs) × (question ≡ Some q) × HoldsUnread (question_bytes q) (connection_in now.connections id)
     at (inl its) = absurd (other (sym its.1))
     at (inr old) =
         let k = h id old in
         let same = ap (λ (s : ServerState). connection_in s.connections id) came
         ∙ others_hold before.connections owner id (question_bytes command) (not_at_rest loans id owner n old rest) in
-        (k.0, k.1, subst (Holds (question_bytes k.0)) (sym same) k.2)
+        (k.0, k.1, subst (HoldsUnread (question_bytes k.0)) (sym same) k.2)
 
 pub free_still : (n : ℕ) (loans after : List (Option Loan)) (owner : ℕ) (loan : Loan) (s : Socket) → Some n ≢ loan.socket
     → after ≡ set loans owner (Some loan) → IsFree n loans s → IsFree n after s
@@ -95,7 +95,7 @@ awaits_its_own n loans after before now owner loan command rest lent came h none
     question : List ℕ
     question = question_bytes command
 
-    empty : Holds [] (connection_in before.connections owner)
+    empty : HoldsUnread [] (connection_in before.connections owner)
     empty = subst (λ (o : Option Loan). HoldsFor o (connection_in before.connections owner)) rest (h owner)
 
     there : connection_in now.connections owner
@@ -107,12 +107,12 @@ awaits_its_own n loans after before now owner loan command rest lent came h none
         else connection_in before.connections owner) same
 
     at : ((id ≡ owner) × (loan.socket ≡ Some n)) ⊎ (borrower (loan_at loans id) ≡ Some n)
-        → (q : Pairs) × (Some command ≡ Some q) × Holds (question_bytes q) (connection_in now.connections id)
+        → (q : Pairs) × (Some command ≡ Some q) × HoldsUnread (question_bytes q) (connection_in now.connections id)
     at (inl its) = (
       command,
       refl,
-      subst (λ (i : ℕ). Holds question (connection_in now.connections i)) (sym its.0)
-          (subst (Holds question) (sym there) (holds_more (connection_in before.connections owner) question empty)),
+      subst (λ (i : ℕ). HoldsUnread question (connection_in now.connections i)) (sym its.0)
+          (subst (HoldsUnread question) (sym there) (holds_more (connection_in before.connections owner) question empty)),
     )
     at (inr old) = absurd (none id old)
 

@@ -250,12 +250,12 @@ module _ {D : Type 0} (turns : List (ServerTurn D)) (n : ℕ) where
           → Follows bytes given new.loans new.server.connections (get_or after n fresh))
           → (m ≡ n) ⊎ (m ≢ n) → Follows bytes given new.loans new.server.connections (get_or after n fresh)
       at others (inl same) =
-          let does : Does (info_of n time old.next_id) n old.cursors (seat_at old (get_or before n fresh)) (seat_at h.0 (get_or after n fresh)) =
+          let as_planned : Does (info_of n time old.next_id) n old.cursors (seat_at old (get_or before n fresh)) (seat_at h.0 (get_or after n fresh)) =
           subst (λ (i : ℕ). Does (info_of i time old.next_id) i old.cursors (seat_at old (get_or before i fresh)) (seat_at h.0 (get_or after i fresh)))
-          same (h.1.does fresh) in
+          same (h.1.as_planned fresh) in
           passes before after time later bytes given (get_or after n fresh) h.0 new h.2 (λ c. once.0 (subst (Contains later) (sym same) c))
           (serves bytes given (info_of n time old.next_id) old.cursors (seat_at old (get_or before n fresh)) (seat_at h.0 (get_or after n fresh))
-          k none holds free does)
+          k none holds free as_planned)
       at others (inr apart) =
           others (λ never_in. stays (λ c. not_there c never_in)) held
           (passed_free m (get_or before n fresh) _ old h.0 apart (h.1.asks fresh) free)

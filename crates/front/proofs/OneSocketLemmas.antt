@@ -6,7 +6,7 @@ use Rattle.bson.specs.Spelling.{frame_of, pairs_bytes}
 use Rattle.bson.specs.Tree.{Pairs}
 use Rattle.driver_messages.specs.Incoming.{next_message}
 use Rattle.drivers.specs.declared.server_info.ServerInfo.{ServerInfo}
-use Rattle.front.specs.OneSocket.{connection_for, is_held, is_long, pending, AsksBy, Asking, AsksOrRefuses, AsksUnless, IsAsked, IsRefused}
+use Rattle.front.specs.OneSocket.{connection_for, is_held, is_long, pending, AsksBy, Asking, AsksOrRefuses, AsksUnless, IsAsked, IsSeatRefused}
 use Rattle.front.specs.OneSocket.{Seat, Serves}
 use Rattle.front.specs.Replying.{Begins}
 use Rattle.front.specs.declared.job.Question.{Question}
@@ -38,7 +38,7 @@ asks_it number id cursors old new p question wants found asked =
 
 -- it has no room
 pub asks_long : (number id : ℕ) (cursors : List OpenCursor) (old new : Seat) (p : Option Question) (question : Question) → p ≡ Some question
-    → connection_for old.loans cursors question ≡ Some id → is_long question.command ≡ true → IsRefused old new → Asking number cursors p old new
+    → connection_for old.loans cursors question ≡ Some id → is_long question.command ≡ true → IsSeatRefused old new → Asking number cursors p old new
 asks_long number id cursors old new p question wants found long refused =
     subst (λ (q : Option Question). Asking number cursors q old new) (sym wants)
     (subst (λ (i : Option ℕ). AsksBy i number question old new) (sym found)

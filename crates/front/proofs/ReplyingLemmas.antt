@@ -128,36 +128,36 @@ closes_with r old new m rest is h = on_err r (λ e. subst (λ (n : Next). WaitsO
 some_is : (x y : ℕ) → Some x ≡ Some y → x ≡ y
 some_is x y e = cc
 
-pub becomes_none : (old new : List Socket) (socket : Option ℕ) (goes : Socket → Socket → Type 0) → socket ≡ None → Becomes old socket goes new
-becomes_none old new socket goes is = λ n any e inside.
+pub becomes_none : (old new : List Socket) (socket : Option ℕ) (continues : Socket → Socket → Type 0) → socket ≡ None → Becomes old socket continues new
+becomes_none old new socket continues is = λ n any e inside.
     let nobody : Some n ≡ None = sym e ∙ is in
     absurd cc
 
-pub becomes_past : (old new : List Socket) (socket : Option ℕ) (goes : Socket → Socket → Type 0) (number : ℕ) → socket ≡ Some number → length old ≤ number
-    → Becomes old socket goes new
-becomes_past old new socket goes number is past = λ n any e inside.
+pub becomes_past : (old new : List Socket) (socket : Option ℕ) (continues : Socket → Socket → Type 0) (number : ℕ) → socket ≡ Some number → length old ≤ number
+    → Becomes old socket continues new
+becomes_past old new socket continues number is past = λ n any e inside.
     let same : n ≡ number = some_is n number (sym e ∙ is) in
     absurd (omega (arith, same, inside, past))
 
-pub becomes_at : (old : List Socket) (socket : Option ℕ) (goes : Socket → Socket → Type 0) (number : ℕ) (d now : Socket) → socket ≡ Some number
-    → number < length old → goes (get_or old number d) now → Becomes old socket goes (set old number now)
-becomes_at old socket goes number d now is within h = λ n any e inside.
+pub becomes_at : (old : List Socket) (socket : Option ℕ) (continues : Socket → Socket → Type 0) (number : ℕ) (d now : Socket) → socket ≡ Some number
+    → number < length old → continues (get_or old number d) now → Becomes old socket continues (set old number now)
+becomes_at old socket continues number d now is within h = λ n any e inside.
     let same : number ≡ n = some_is number n (sym is ∙ e) in
-    subst (λ (m : ℕ). goes (get_or old m any) (get_or (set old number now) m any)) same
-    (subst (λ (s : Socket). goes s (get_or (set old number now) number any)) (get_or_default old number d any within)
-    (subst (λ (s : Socket). goes (get_or old number d) s) (sym (get_or-set_same old number now any within)) h))
+    subst (λ (m : ℕ). continues (get_or old m any) (get_or (set old number now) m any)) same
+    (subst (λ (s : Socket). continues s (get_or (set old number now) number any)) (get_or_default old number d any within)
+    (subst (λ (s : Socket). continues (get_or old number d) s) (sym (get_or-set_same old number now any within)) h))
 
-pub becomes_more : (old new : List Socket) (socket : Option ℕ) (goes more : Socket → Socket → Type 0)
-    → ((s t : Socket) → goes s t → more s t) → Becomes old socket goes new → Becomes old socket more new
-becomes_more old new socket goes more on h = λ n any e inside. on (get_or old n any) (get_or new n any) (h n any e inside)
+pub becomes_more : (old new : List Socket) (socket : Option ℕ) (continues more : Socket → Socket → Type 0)
+    → ((s t : Socket) → continues s t → more s t) → Becomes old socket continues new → Becomes old socket more new
+becomes_more old new socket continues more extends h = λ n any e inside. extends (get_or old n any) (get_or new n any) (h n any e inside)
 
 -- the socket that the loan names
-pub becomes_same : (old new : List Socket) (socket borrowed : Option ℕ) (goes : Socket → Socket → Type 0) → socket ≡ borrowed
-    → Becomes old socket goes new → Becomes old borrowed goes new
-becomes_same old new socket borrowed goes same h = λ n any e inside. h n any (same ∙ e) inside
+pub becomes_same : (old new : List Socket) (socket borrowed : Option ℕ) (continues : Socket → Socket → Type 0) → socket ≡ borrowed
+    → Becomes old socket continues new → Becomes old borrowed continues new
+becomes_same old new socket borrowed continues same h = λ n any e inside. h n any (same ∙ e) inside
 
 pub takes_document : (frame : List ℕ) (old new : List Socket) (socket borrowed : Option ℕ) (reply : Pairs) → document_in (drop 21 frame) ≡ Ok reply
     → socket ≡ borrowed → Becomes old socket (λ s t. TakesReply s s.job reply t) new → TakesFrame frame old borrowed new
-takes_document frame old new socket borrowed reply is same goes =
+takes_document frame old new socket borrowed reply is same continues =
     becomes_same old new socket borrowed (TakesDocument frame) same
-    (becomes_more old new socket (λ s t. TakesReply s s.job reply t) (TakesDocument frame) (λ s t h. (reply, is, h)) goes)
+    (becomes_more old new socket (λ s t. TakesReply s s.job reply t) (TakesDocument frame) (λ s t h. (reply, is, h)) continues)

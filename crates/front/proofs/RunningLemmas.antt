@@ -31,7 +31,7 @@ use Rattle.front.specs.Served.{IsReplyTo, IsServed, ServerTurn}
 use Rattle.front.specs.Serving.{fed, fresh}
 use Rattle.front.specs.Turning.{desk}
 use Rattle.front.specs.Tying.{AreTied, is_asked}
-use Rattle.front.specs.Unread.{HoldQuestions, Holds}
+use Rattle.front.specs.Unread.{HoldQuestions, HoldsUnread}
 use Rattle.front.specs.declared.front.Front.{Front}
 use Rattle.front.specs.declared.lending.Loan.{Loan}
 use Rattle.front.specs.declared.socket.Socket.{Socket}
@@ -170,7 +170,7 @@ module _ {D : Type 0} (history : D → History) (turns : List (ServerTurn D)) (n
       at : (r : Result TurnOut TurnFault) → turn.result ≡ r → r ≢ Err turn_faults.Stopped → TakesTurn history old.core r h.after
           → TakesAll r (record (floor old) { server = state h.after }) (floor new)
           → Follows turns n bytes given new.lending.loans (state new.core).connections (socket_in new n)
-      at (Ok out) is on t takes =
+      at (Ok out) is extends t takes =
           let all = takes_each turn made out is bytes given (out_of out).replies (record (floor old) { server = state h.after }) (floor new)
           (λ r c. c) takes.1 (λ id e. e) (λ id e. tied.there id n e) (λ id other e f. tied.once id other n e f) k in
           record {
@@ -179,10 +179,10 @@ module _ {D : Type 0} (history : D → History) (turns : List (ServerTurn D)) (n
             awaits = awaits_nothing n new.lending.loans (state new.core).connections (asked_now all.after)
                 (λ id e. let never : None ≡ Some n = sym (ap borrower (takes.2 id)) ∙ e in absurd cc);
           }
-      at (Err turn_faults.Memory) is on t takes =
+      at (Err turn_faults.Memory) is extends t takes =
           let same : floor new ≡ floor old = takes ∙ ap (λ (c : Core D). record (floor old) { server = state c }) (t.untouched refl) in
           subst (λ (f : Floor). Follows turns n bytes given f.loans f.server.connections (get_or f.sockets n fresh)) (sym same) k
-      at (Err turn_faults.Stopped) is on t takes = absurd (on refl)
+      at (Err turn_faults.Stopped) is extends t takes = absurd (extends refl)
 
   -- ---- the answers are handed out
 
@@ -310,7 +310,7 @@ module _ {D : Type 0} (history : D → History) (turns : List (ServerTurn D)) (n
       awaits = λ id e.
           let before = borrower_ended old.lending.loans m id n (ap (λ (ls : List (Option Loan)). borrower (loan_at ls id)) (sym h.loans) ∙ e) in
           let its = k.follows.awaits id before.1 in
-          (its.0, its.1, subst (λ (c : Core D). Holds (question_bytes its.0) (connection_in (state c).connections id)) (sym h.core) its.2);
+          (its.0, its.1, subst (λ (c : Core D). HoldsUnread (question_bytes its.0) (connection_in (state c).connections id)) (sym h.core) its.2);
     });
     none = ap (λ (s : Socket). s.answer) is ∙ k.none;
   }

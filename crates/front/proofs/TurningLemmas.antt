@@ -66,7 +66,7 @@ serves_one r ss time n next later info s new cursors loans after before now insi
   asks = λ any.
       subst (λ (i : ServerInfo). AsksWanted (Some n) (wanted i (get_or ss n any)) loans after before now) known
       (subst (λ (t : Socket). AsksWanted (Some n) (wanted info t) loans after before now) (there any) asks);
-  does = λ any.
+  as_planned = λ any.
       subst (λ (i : ServerInfo). Does i n cursors (seat (get_or ss n any)) (seat_new (get_or (set ss n new) n any))) known
       (subst (λ (t : Socket). Does info n cursors (seat t) (seat_new (get_or (set ss n new) n any))) (there any)
       (subst (λ (t : Socket). Does info n cursors (seat s) (seat_new t)) (sym (get_or-set_same ss n new any inside)) (either r served out)));
@@ -89,8 +89,8 @@ as_was ss now later time n old new same h = record {
   cursors = h.cursors;
   asks = λ any.
       subst (λ (s : Socket). AsksWanted (Some n) (wanted (info_of n time old.next_id) s) old.loans new.loans old.server new.server) (same any) (h.asks any);
-  does = λ any.
-      subst (λ (s : Socket). Does (info_of n time old.next_id) n old.cursors (seat_at old s) (seat_at new (get_or later n any))) (same any) (h.does any);
+  as_planned = λ any.
+      subst (λ (s : Socket). Does (info_of n time old.next_id) n old.cursors (seat_at old s) (seat_at new (get_or later n any))) (same any) (h.as_planned any);
 }
 
 -- a socket as it is left
@@ -100,8 +100,9 @@ as_left ss now later time n old new same h = record {
   behind = h.behind;
   cursors = h.cursors;
   asks = h.asks;
-  does = λ any.
-      subst (λ (s : Socket). Does (info_of n time old.next_id) n old.cursors (seat_at old (get_or ss n any)) (seat_at new s)) (sym (same any)) (h.does any);
+  as_planned = λ any.
+      subst (λ (s : Socket). Does (info_of n time old.next_id) n old.cursors (seat_at old (get_or ss n any)) (seat_at new s)) (sym (same any))
+      (h.as_planned any);
 }
 
 -- ---- one after the other
@@ -310,7 +311,7 @@ pub turn_full : (ss now : List Socket) (given first count step time next : ℕ) 
     → waits s ≡ true → HaveServed ss now first count step time old new
     → ((any : Socket) → get_or now ((first + step) % count) any ≡ get_or ss ((first + step) % count) any) → list_any is_none new.loans ≡ false
     → AsksInTurn ss now given next old new
-turn_full ss now given first count step time next old new s from goes fits many within is wait h same full = record {
+turn_full ss now given first count step time next old new s from continues fits many within is wait h same full = record {
   time = time;
   numbers = h.numbers;
   served = h.served;
@@ -319,7 +320,7 @@ turn_full ss now given first count step time next old new s from goes fits many 
   all = λ n any inside e. inr (inl full);
   others = h.others;
   begins = λ n at inside waiting. first_one n (at ∙ ap (λ (m : ℕ). m % length ss) (sym from)) waiting (cases_lt 0 step);
-  ends = inr (inl (record { full = full; waits = subst (Waits ss) (sym goes) waiting; kept = λ c. kept (subst (Contains h.numbers) goes c) }));
+  ends = inr (inl (record { full = full; waits = subst (Waits ss) (sym continues) waiting; kept = λ c. kept (subst (Contains h.numbers) continues c) }));
 }
   where
     i : ℕ
@@ -351,7 +352,7 @@ pub turn_last : (ss now later : List Socket) (given first count step time next :
     → OthersStay now (Some ((first + step) % count)) later → ServesOne now later time ((first + step) % count) mid new
     → AsksAlone later ((first + step) % count) → AsksInTurn ss later given next old new
 unfolding served_more
-turn_last ss now later given first count step time next old mid new s from goes fits many less is wait h same stay one alone = record {
+turn_last ss now later given first count step time next old mid new s from continues fits many less is wait h same stay one alone = record {
   time = time;
   numbers = more.numbers;
   served = more.served;
@@ -361,7 +362,7 @@ turn_last ss now later given first count step time next old mid new s from goes 
   others = more.others;
   begins = λ n at inside waiting.
       inl (came_first ss later first count (step + 1) time old new n fits (omega arith) more (at ∙ ap (λ (m : ℕ). m % length ss) (sym from)) waiting);
-  ends = inr (inr (inl (record { last = i; served = contains_last h.numbers i; alone = alone; behind = goes })));
+  ends = inr (inr (inl (record { last = i; served = contains_last h.numbers i; alone = alone; behind = continues })));
 }
   where
     i : ℕ
@@ -381,12 +382,12 @@ turn_alone ss later given next time n old new stays stay one alone = record {
   only = λ m c. inr (subst (AsksAlone ss) (sym (last_is n m c)) alone);
   all = λ m any within e. inr (inr (n, contains_last [] n, inl alone));
   others = λ m any no. stay.others m any (λ e. no (subst (Contains (n ∷ [])) (sym (some_same m n e)) (contains_last [] n)));
-  begins = λ m at inside waiting. inr (inr goes);
-  ends = inr (inr (inr goes));
+  begins = λ m at inside waiting. inr (inr continues);
+  ends = inr (inr (inr continues));
 }
   where
-    goes : GoesOnWithOne (n ∷ []) ss given next
-    goes = record { one = n; is = refl; alone = alone; again = stays }
+    continues : GoesOnWithOne (n ∷ []) ss given next
+    continues = record { one = n; is = refl; alone = alone; again = stays }
 
 -- nothing has changed before
 pub turn_behind : (ss given after : List Socket) (first begun next : ℕ) (old mid new : Desk) → given ≡ ss → begun ≡ first → mid ≡ old

@@ -77,7 +77,7 @@ borrower_ended (x ∷ xs) n (suc k) m e = borrower_ended xs n k m e
 -- a socket that waited goes on waiting
 pub tied_socket : (loans : List (Option Loan)) (ss : List Socket) (n : ℕ) (any new : Socket) → AreTied loans ss → n < length ss
     → (is_asked (get_or ss n any).job ≡ true → is_asked new.job ≡ true) → AreTied loans (set ss n new)
-tied_socket loans ss n any new tied within goes = record {
+tied_socket loans ss n any new tied within continues = record {
   there = λ k m e. subst (λ (l : ℕ). m < l) (sym (length-set ss n new)) (tied.there k m e);
   asked = λ k m d e. at k m d e (same_or_not m n);
   once = tied.once;
@@ -87,7 +87,7 @@ tied_socket loans ss n any new tied within goes = record {
     at k m d e (inl same) =
         let there : get_or (set ss n new) m d ≡ new = ap (λ (i : ℕ). get_or (set ss n new) i d) same ∙ get_or-set_same ss n new d within in
         let waited : is_asked (get_or ss n any).job ≡ true = tied.asked k n any (e ∙ ap Some same) in
-        ap (λ (s : Socket). is_asked s.job) there ∙ goes waited
+        ap (λ (s : Socket). is_asked s.job) there ∙ continues waited
     at k m d e (inr apart) = ap (λ (s : Socket). is_asked s.job) (get_or-set_other ss n m new d apart) ∙ tied.asked k m d e
 
 -- a connection is lent to a socket that didn't wait
@@ -221,12 +221,12 @@ tied_new loans ss is =
 
 pub asks_after : (n : ℕ) (loans after : List (Option Loan)) (s t u : Socket) → (is_asked s.job ≡ true → is_asked t.job ≡ true) → Asks n loans after t u
     → Asks n loans after s u
-asks_after n loans after s t u goes (inl h) = inl (h.0, λ e. h.1 (goes e))
-asks_after n loans after s t u goes (inr h) = inr (h.0, at (is_asked s.job) refl, h.2)
+asks_after n loans after s t u continues (inl h) = inl (h.0, λ e. h.1 (continues e))
+asks_after n loans after s t u continues (inr h) = inr (h.0, at (is_asked s.job) refl, h.2)
   where
     at : (b : Bool) → is_asked s.job ≡ b → is_asked s.job ≡ false
     at true e =
-        let waits : is_asked t.job ≡ true = goes e in
+        let waits : is_asked t.job ≡ true = continues e in
         let free : is_asked t.job ≡ false = h.1 in
         absurd cc
     at false e = e

@@ -29,14 +29,14 @@ use Rattle.server.proofs.ConnectionIn.{Front, dropped_in, ended_in, fed_in, foun
 use Rattle.front.specs.Asking.{question_bytes, IsAskedOn}
 use Rattle.front.specs.Laws.{question_frame}
 use Rattle.front.specs.Lending.{loan_at, after_end}
-use Rattle.front.specs.Unread.{AreAtRest, HasReply, HasTurned, HaveReplies, HoldNothing, HoldQuestions, Holds, HoldsFor, HoldsQuestion, IsBehind}
+use Rattle.front.specs.Unread.{AreAtRest, HasReply, HasTurned, HaveReplies, HoldNothing, HoldQuestions, HoldsUnread, HoldsFor, HoldsQuestion, IsBehind}
 use Rattle.front.specs.declared.lending.Loan.{Loan}
 use Rattle.front.proofs.FrameLaws.{questions_are_messages}
 use Rattle.front.proofs.TyingLemmas.{same_or_not}
 
 -- ---- a question comes
 
-pub holds_more : (c : Connection) (bytes : List ℕ) → Holds [] c → Holds bytes (add_bytes c c.fault bytes)
+pub holds_more : (c : Connection) (bytes : List ℕ) → HoldsUnread [] c → HoldsUnread bytes (add_bytes c c.fault bytes)
 holds_more c bytes h = record {
   is = ap (λ (f : Option FrameFault). (add_bytes c f bytes).frames) h.faultless ∙ ap (λ (before : List ℕ). before ++ bytes) h.is;
   faultless = ap (λ (f : Option FrameFault). (add_bytes c f bytes).fault) h.faultless ∙ h.faultless;
@@ -51,7 +51,7 @@ unread_asked loans cs id loan command there rests room reads h k = at (same_or_n
     question : List ℕ
     question = question_bytes command
 
-    empty : Holds [] (connection_in cs id)
+    empty : HoldsUnread [] (connection_in cs id)
     empty = subst (λ (o : Option Loan). HoldsFor o (connection_in cs id)) rests (h id)
 
     its : HoldsFor (loan_at (set loans id (Some loan)) id) (connection_in (feed_connections cs id question) id)
@@ -65,7 +65,7 @@ unread_asked loans cs id loan command there rests room reads h k = at (same_or_n
           command = command;
           room = room;
           reads = reads;
-          alone = subst (Holds question) (sym here) (holds_more (connection_in cs id) question empty);
+          alone = subst (HoldsUnread question) (sym here) (holds_more (connection_in cs id) question empty);
         })
 
     at : (id ≡ k) ⊎ (id ≢ k) → HoldsFor (loan_at (set loans id (Some loan)) k) (connection_in (feed_connections cs id question) k)
@@ -81,23 +81,23 @@ unread_asked loans cs id loan command there rests room reads h k = at (same_or_n
 
 -- ---- a turn takes them
 
-front_empty : (c : Connection) → Holds [] c → front_of c ≡ Ok None
+front_empty : (c : Connection) → HoldsUnread [] c → front_of c ≡ Ok None
 unfolding front
 front_empty c h = λ i. front_if_open (h.faultless i) (h.is i)
 
 front_question : (c : Connection) (h : HoldsQuestion c) → front_of c ≡ Ok (Some (question_frame h.command, []))
 front_question c h = (λ i. front_if_open (h.alone.faultless i) (h.alone.is i)) ∙ questions_are_messages h.command h.room
 
-after_turn : (loan : Option Loan) (c : Connection) → HoldsFor loan c → Holds [] (connection_after c)
+after_turn : (loan : Option Loan) (c : Connection) → HoldsFor loan c → HoldsUnread [] (connection_after c)
 after_turn None c h =
     let same : connection_after c ≡ c = ap (connection_at c) (front_empty c h) in
-    subst (Holds []) (sym same) h
+    subst (HoldsUnread []) (sym same) h
 after_turn (Some loan) c h =
     let is : connection_after c ≡ connection_at c (Ok (Some (question_frame h.command, []))) = ap (connection_at c) (front_question c h) in
-    subst (Holds []) (sym is) (record { is = refl; faultless = h.alone.faultless })
+    subst (HoldsUnread []) (sym is) (record { is = refl; faultless = h.alone.faultless })
 
 pub unread_turned : (loans : List (Option Loan)) (cs : List Connection) → HoldQuestions loans cs → HoldNothing (connections_after cs)
-unread_turned loans cs h id = subst (Holds []) (sym (turned_in id cs)) (after_turn (loan_at loans id) (connection_in cs id) (h id))
+unread_turned loans cs h id = subst (HoldsUnread []) (sym (turned_in id cs)) (after_turn (loan_at loans id) (connection_in cs id) (h id))
 
 -- ---- and replies to them
 
@@ -208,12 +208,12 @@ unread_at_rest loans cs rest h id = subst (λ (o : Option Loan). HoldsFor o (con
 pub unread_ended : (cs : List Connection) (id : ℕ) → are_ascending cs ≡ true → HoldNothing cs → HoldNothing (drop_connection cs id)
 unread_ended cs id rises h k = at (same_or_not id k)
   where
-    its : Holds [] (connection_in (drop_connection cs id) id)
-    its = subst (Holds []) (sym (ended_in id cs rises)) (record { is = refl; faultless = refl })
+    its : HoldsUnread [] (connection_in (drop_connection cs id) id)
+    its = subst (HoldsUnread []) (sym (ended_in id cs rises)) (record { is = refl; faultless = refl })
 
-    at : (id ≡ k) ⊎ (id ≢ k) → Holds [] (connection_in (drop_connection cs id) k)
-    at (inl same) = subst (λ (i : ℕ). Holds [] (connection_in (drop_connection cs id) i)) same its
-    at (inr apart) = subst (Holds []) (sym (dropped_in k id cs apart rises)) (h k)
+    at : (id ≡ k) ⊎ (id ≢ k) → HoldsUnread [] (connection_in (drop_connection cs id) k)
+    at (inl same) = subst (λ (i : ℕ). HoldsUnread [] (connection_in (drop_connection cs id) i)) same its
+    at (inr apart) = subst (HoldsUnread []) (sym (dropped_in k id cs apart rises)) (h k)
 
 loan_ended : (loans : List (Option Loan)) (n id : ℕ) → loan_at (map (after_end n) loans) id ≡ after_end n (loan_at loans id)
 loan_ended [] n id = refl
@@ -296,7 +296,7 @@ module _ {D : Type 0} (history : D → History) where
   behind_new loans core sound fresh is = behind_turned loans core
       (record {
         sound = sound;
-        unread = λ id. subst (λ (cs : List Connection). Holds [] (connection_in cs id)) (sym fresh) (record { is = refl; faultless = refl });
+        unread = λ id. subst (λ (cs : List Connection). HoldsUnread [] (connection_in cs id)) (sym fresh) (record { is = refl; faultless = refl });
       })
       (λ id. ap (λ (ls : List (Option Loan)). loan_at ls id) is ∙ none_lent 64 id)
     where

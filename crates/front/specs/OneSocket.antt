@@ -81,13 +81,13 @@ pub record IsAsked (number id : ℕ) (question : Question) (old new : Seat) : Ty
   pub waits : new.socket ≡ waiting old.socket
 
 -- It has no room in a message, and isn't asked: its message goes on as if that had been replied.
-pub record IsRefused (old new : Seat) : Type 0 where
+pub record IsSeatRefused (old new : Seat) : Type 0 where
   pub loans : new.loans ≡ old.loans
   pub server : new.server ≡ old.server
   pub told : TakesReply old.socket old.socket.job long_reply new.socket
 
 abbrev pub AsksOrRefuses : Bool → ℕ → ℕ → Question → Seat → Seat → Type 0
-AsksOrRefuses true number id question old new = IsRefused old new
+AsksOrRefuses true number id question old new = IsSeatRefused old new
 AsksOrRefuses false number id question old new = IsAsked number id question old new
 
 abbrev pub AsksBy : Option ℕ → ℕ → Question → Seat → Seat → Type 0

@@ -141,8 +141,8 @@ WaitsOrCloses old (Err fault) new = new ≡ old
 
 -- the socket that a connection was lent to, if it is there, becomes this
 abbrev pub Becomes : List Socket → Option ℕ → (Socket → Socket → Type 0) → List Socket → Type 0
-Becomes old socket goes new = (n : ℕ) (any : Socket) → socket ≡ Some n → n < length old
-    → goes (slice_index_or old n any) (slice_index_or new n any)
+Becomes old socket continues new = (n : ℕ) (any : Socket) → socket ≡ Some n → n < length old
+    → continues (slice_index_or old n any) (slice_index_or new n any)
 
 -- A frame came back for it: its message goes on with the frame's document.
 abbrev pub TakesDocument : List ℕ → Socket → Socket → Type 0

@@ -26,7 +26,7 @@ use Rattle.front.specs.Asking.{question_bytes}
 use Rattle.front.specs.Lending.{borrower, loan_at}
 use Rattle.front.specs.OneSocket.{is_long}
 use Rattle.front.specs.Replying.{long_reply, question_by, told}
-use Rattle.front.specs.Unread.{Holds}
+use Rattle.front.specs.Unread.{HoldsUnread}
 use Rattle.front.specs.declared.job.Job.{Job}
 use Rattle.front.specs.declared.job.Question.{Question}
 use Rattle.front.specs.declared.job.Stage.{Stage}
@@ -94,7 +94,7 @@ pub record CameBack {D : Type 0} (turns : List (ServerTurn D)) (n : ℕ)
   pub answered : turn.result ≡ Ok out
   pub id : ℕ
   pub lent : borrower (loan_at turn.loans id) ≡ Some n
-  pub stood : Holds (question_bytes question) (connection_in (state turn.old).connections id)
+  pub stood : HoldsUnread (question_bytes question) (connection_in (state turn.old).connections id)
   pub frame : List ℕ
   pub replied : Contains (out_of out).replies (id, frame)
   pub reads : document_in (drop 21 frame) ≡ Ok reply

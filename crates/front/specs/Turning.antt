@@ -72,7 +72,7 @@ pub record ServesOne (before after : List Socket) (time number : ℕ) (old new :
   pub asks : (any : Socket) → AsksWanted (Some number)
       (wanted (info_of number time old.next_id) (slice_index_or before number any))
       old.loans new.loans old.server new.server
-  pub does : (any : Socket) → Does (info_of number time old.next_id) number old.cursors
+  pub as_planned : (any : Socket) → Does (info_of number time old.next_id) number old.cursors
       (seat_at old (slice_index_or before number any))
       (seat_at new (slice_index_or after number any))
 

@@ -17,7 +17,7 @@ use Rattle.front.specs.Lending.{loan_at}
 use Rattle.front.specs.declared.lending.Loan.{Loan}
 
 -- These bytes stand unread on a connection, and no fault has closed it.
-pub record Holds (bytes : List ℕ) (connection : Connection) : Type 0 where
+pub record HoldsUnread (bytes : List ℕ) (connection : Connection) : Type 0 where
   pub is : connection.frames ≡ bytes
   pub faultless : connection.fault ≡ None
 
@@ -26,10 +26,10 @@ pub record HoldsQuestion (connection : Connection) : Type 0 where
   pub command : Pairs
   pub room : length (frame_of (pairs_bytes command)) + 21 ≤ message_limit
   pub reads : document_in (frame_of (pairs_bytes command)) ≡ Ok command
-  pub alone : Holds (question_bytes command) connection
+  pub alone : HoldsUnread (question_bytes command) connection
 
 abbrev pub HoldsFor : Option Loan → Connection → Type 0
-HoldsFor None connection = Holds [] connection
+HoldsFor None connection = HoldsUnread [] connection
 HoldsFor (Some loan) connection = HoldsQuestion connection
 
 abbrev pub HoldQuestions : List (Option Loan) → List Connection → Type 0
@@ -38,7 +38,7 @@ HoldQuestions loans connections =
 
 -- Nothing stands unread on any connection.
 abbrev pub HoldNothing : List Connection → Type 0
-HoldNothing connections = (id : ℕ) → Holds [] (connection_in connections id)
+HoldNothing connections = (id : ℕ) → HoldsUnread [] (connection_in connections id)
 
 -- A server behind a front: until it stops, there stand the questions that connections are lent for,
 -- one on each, and nothing else.

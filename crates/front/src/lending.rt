@@ -64,7 +64,7 @@ impl Lending {
     }
 
     /// A connection is at rest again. What it was lent for.
-    pub fn take_back(&mut self, id: ConnId) -> Option<Loan>
+    pub fn roll_back(&mut self, id: ConnId) -> Option<Loan>
         ensures loan { result ≡ loan_at self.old.loans id }
         ensures rest { self.new.loans ≡ slice_set self.old.loans id None }
     {

@@ -162,8 +162,8 @@ module _ {X : Type 0} (p : X → Bool) (same : X → X → Bool) (alike : (x y :
     where
       by : (b : Bool) → same x k ≡ b → list_any p (dedup_from same k xs) ≡ (p k || list_any p xs) → list_any p (dedup_from same x xs) ≡ (p x || list_any p xs)
           → list_any p (cond b (dedup_from same k xs) (k ∷ dedup_from same x xs)) ≡ (p k || (p x || list_any p xs))
-      by true e stays goes = stays ∙ or_same (p k) (p x) (list_any p xs) (alike x k e)
-      by false e stays goes = ap (λ (b : Bool). p k || b) goes
+      by true e stays continues = stays ∙ or_same (p k) (p x) (list_any p xs) (alike x k e)
+      by false e stays continues = ap (λ (b : Bool). p k || b) continues
 
   any_dedup : (xs : List X) → list_any p (dedup same xs) ≡ list_any p xs
   any_dedup [] = refl

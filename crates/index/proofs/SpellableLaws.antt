@@ -77,19 +77,19 @@ Goes most go = (t : Tree) → Fits most t → AllByRecursion (IfFound most) (go 
 
 on_fits : (most : ℕ) (go : Tree → List Reached) (found : Option Tree) (none : List Reached) → Goes most go → IfFound most found
     → AllByRecursion (IfFound most) none → AllByRecursion (IfFound most) (onwards go found none)
-on_fits most go None none goes h n = n
-on_fits most go (Some t) none goes h n = goes t h
+on_fits most go None none continues h n = n
+on_fits most go (Some t) none continues h n = continues t h
 
 elements_fit : (most : ℕ) (go : Tree → List Reached) (name : List ℕ) (ts : Items) → Goes most go → AllFit most ts
     → AllByRecursion (IfFound most) (in_elements go name ts)
-elements_fit most go name no_items goes h = tt
-elements_fit most go name (item (scalar s) ts) goes h = elements_fit most go name ts goes h.1
-elements_fit most go name (item (array us) ts) goes h = elements_fit most go name ts goes h.1
-elements_fit most go name (item (document ps) ts) goes h =
+elements_fit most go name no_items continues h = tt
+elements_fit most go name (item (scalar s) ts) continues h = elements_fit most go name ts continues h.1
+elements_fit most go name (item (array us) ts) continues h = elements_fit most go name ts continues h.1
+elements_fit most go name (item (document ps) ts) continues h =
     append_all (IfFound most) (onwards go (lookup ps name) (if is_digits name then [] else None ∷ [])) (in_elements go name ts)
-    (on_fits most go (lookup ps name) (if is_digits name then [] else None ∷ []) goes (field_fits most ps name h.0.lawful (pairs_inside most ps h.0))
+    (on_fits most go (lookup ps name) (if is_digits name then [] else None ∷ []) continues (field_fits most ps name h.0.lawful (pairs_inside most ps h.0))
     (either (is_digits name)))
-    (elements_fit most go name ts goes h.1)
+    (elements_fit most go name ts continues h.1)
   where
     either : (b : Bool) → AllByRecursion (IfFound most) (if b then [] else None ∷ [])
     either true = tt
@@ -97,11 +97,11 @@ elements_fit most go name (item (document ps) ts) goes h =
 
 place_fits : (most : ℕ) (go : Tree → List Reached) (name : List ℕ) (ts : Items) → Goes most go → AllFit most ts
     → AllByRecursion (IfFound most) (in_place go name ts)
-place_fits most go name ts goes h = by (index_of name)
+place_fits most go name ts continues h = by (index_of name)
   where
     by : (at : Option ℕ) → AllByRecursion (IfFound most) (onwards go (option_and_then (item_at ts) at) [])
     by None = tt
-    by (Some i) = on_fits most go (item_at ts i) [] goes (item_fits most ts i h) tt
+    by (Some i) = on_fits most go (item_at ts i) [] continues (item_fits most ts i h) tt
 
 reach_fits : (most : ℕ) (parts : List (List ℕ)) → Goes most (reach parts)
 reach_fits most [] t h = (h, tt)

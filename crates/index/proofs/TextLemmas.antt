@@ -105,22 +105,22 @@ module _ (way : Direction) (vs : List Value) (i : ℕ) (v : Value) (texts : List
 -- what one more field gives, which its longest text decides
 module _ (fs : List Field) (i : ℕ) (f : Field) (ps : Pairs) (room : ℕ) (done : List (List (List ℕ))) (whole : Result (List (List (List ℕ))) Refusal)
     (lt : i < length fs) (is : f ≡ get_or fs i f) (so_far : texts_within room done (drop i fs) ps ≡ whole) where
-  on : List (List ℕ) → Result (List (List (List ℕ))) Refusal
-  on texts =
+  extends : List (List ℕ) → Result (List (List (List ℕ))) Refusal
+  extends texts =
       unless (nat_lt room (longest texts)) refusals.KeyTooLong (texts_within (room - longest texts) (done ++ texts ∷ []) (drop (i + 1) fs) ps)
 
-  with_field : (texts_at f ps >>= on) ≡ whole
-  unfolding on
+  with_field : (texts_at f ps >>= extends) ≡ whole
+  unfolding extends
   with_field = sym (ap (λ (gs : List Field). texts_within room done gs ps) (drop_step fs i f lt is)) ∙ so_far
 
   pub field_refused : (e : Refusal) → texts_at f ps ≡ Err e → whole ≡ Err e
-  field_refused e gave = sym with_field ∙ ap (λ (p : Result (List (List ℕ)) Refusal). p >>= on) gave
+  field_refused e gave = sym with_field ∙ ap (λ (p : Result (List (List ℕ)) Refusal). p >>= extends) gave
 
-  tried : (texts : List (List ℕ)) → texts_at f ps ≡ Ok texts → on texts ≡ whole
-  tried texts gave = sym (ap (λ (p : Result (List (List ℕ)) Refusal). p >>= on) gave) ∙ with_field
+  tried : (texts : List (List ℕ)) → texts_at f ps ≡ Ok texts → extends texts ≡ whole
+  tried texts gave = sym (ap (λ (p : Result (List (List ℕ)) Refusal). p >>= extends) gave) ∙ with_field
 
   pub field_without_room : (texts : List (List ℕ)) → texts_at f ps ≡ Ok texts → room < longest texts → whole ≡ Err refusals.KeyTooLong
-  unfolding on
+  unfolding extends
   field_without_room texts gave long =
       let test : nat_lt room (longest texts) ≡ true = grind (arith, nat_tests) in
       sym (tried texts gave)
@@ -128,7 +128,7 @@ module _ (fs : List Field) (i : ℕ) (f : Field) (ps : Pairs) (room : ℕ) (done
 
   pub field_more : (texts : List (List ℕ)) (next : List (List (List ℕ))) (left : ℕ) → texts_at f ps ≡ Ok texts → longest texts ≤ room
       → left ≡ room - longest texts → next ≡ done ++ texts ∷ [] → texts_within left next (drop (i + 1) fs) ps ≡ whole
-  unfolding on
+  unfolding extends
   field_more texts next left gave short left_is grown =
       let test : nat_lt room (longest texts) ≡ false = grind (arith, nat_tests) in
       (λ j. texts_within (left_is j) (grown j) (drop (i + 1) fs) ps)

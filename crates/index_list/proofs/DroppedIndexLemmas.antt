@@ -59,30 +59,30 @@ element_at (x ∷ xs) (suc i) below = element_at xs i (omega (arith, below))
 -- ---- indexes
 
 module _ (away : DroppedIndexes) (is : List Definition) where
-  abbrev goes : Definition → Bool
-  goes = is_dropped away
+  abbrev continues : Definition → Bool
+  continues = is_dropped away
 
-  pub all_remain : position goes is ≡ None → remaining away is ≡ is
-  all_remain none = nothing_passes goes is none
+  pub all_remain : position continues is ≡ None → remaining away is ≡ is
+  all_remain none = nothing_passes continues is none
 
-  module _ (at : ℕ) (found : position goes is ≡ Some at) where
+  module _ (at : ℕ) (found : position continues is ≡ Some at) where
     pub within_them : at < length is
     within_them = some_length is found
       where
-        some_length : (js : List Definition) → position goes js ≡ Some at → at < length js
+        some_length : (js : List Definition) → position continues js ≡ Some at → at < length js
         some_length [] e = absurd cc
-        some_length (j ∷ js) e = (position-Some goes (j ∷ js) at j e).0
+        some_length (j ∷ js) e = (position-Some continues (j ∷ js) at j e).0
 
     pub remain_without : remaining away (remove is at) ≡ remaining away is
     remain_without =
         let e = element_at is at within_them in
-        left_without goes is at e.0 within_them e.1 (ap goes e.1 ∙ (position-Some goes is at e.0 found).1)
+        left_without continues is at e.0 within_them e.1 (ap continues e.1 ∙ (position-Some continues is at e.0 found).1)
 
     pub fewer_remain : length (remaining away is) < length is
     fewer_remain =
         let stays : length (remaining away (remove is at)) ≤ length (remove is at) =
-        subst (λ (n : ℕ). n ≤ length (remove is at)) (sym (length-filter (λ k. not (goes k)) (remove is at)))
-        (count_by-le-length (λ k. not (goes k)) (remove is at)) in
+        subst (λ (n : ℕ). n ≤ length (remove is at)) (sym (length-filter (λ k. not (continues k)) (remove is at)))
+        (count_by-le-length (λ k. not (continues k)) (remove is at)) in
         omega (arith, stays, ap length remain_without, length-remove is at within_them)
 
 -- ---- refusals

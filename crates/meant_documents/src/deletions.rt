@@ -3,7 +3,7 @@
 ghost use Rattle.std.specs.Prelude.{map};
 ghost use Rattle.database_model.specs.Merging.{is_deleted};
 
-use asked_documents::Selects;
+use asked_documents::DocumentPredicate;
 use bson::{NoMemory, RawDoc};
 use commands::Deletion;
 use filter::Filter;
@@ -16,7 +16,7 @@ pub struct Matched<'a> {
     pub deletions: &'a [Deletion],
 }
 
-impl Selects for Matched<'_> {
+impl DocumentPredicate for Matched<'_> {
     ghost selects = { λ a. is_deleted a.deletions.now };
 
     ghost filters = { λ a. map (λ d. d.filter) a.deletions.now };

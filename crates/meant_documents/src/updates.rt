@@ -8,7 +8,7 @@ ghost use Rattle.database_model.specs.Merging.{has_key_of, is_meant_by, is_updat
 ghost use Rattle.index.specs.View.{texts_of};
 ghost use Rattle.asked_documents.specs.ById.{ArePut, TellIds};
 
-use asked_documents::Selects;
+use asked_documents::DocumentPredicate;
 use bson::{Document, NoMemory, RawDoc};
 use candidate_ids::put_id;
 use commands::UpdateStatement;
@@ -128,7 +128,7 @@ pub struct Meaning<'a> {
     pub made: &'a [Document],
 }
 
-impl Selects for Meaning<'_> {
+impl DocumentPredicate for Meaning<'_> {
     ghost selects = { λ a. is_meant_by a.statements.now a.made.now };
 
     ghost filters = { λ a. map (λ s. s.filter) a.statements.now };

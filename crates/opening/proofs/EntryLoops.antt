@@ -30,9 +30,9 @@ takes_end all entries i p whole = subst (λ (es : List OwnEntry). TakesAll all p
 -- ---- faults
 
 pub fault_of : {A B : Type 0} (e : OpenFault) → (A → B) → IsFaultOf e A → IsFaultOf e B
-fault_of e on (inl memory) = inl memory
-fault_of e on (inr (damaged, why)) = inr (damaged, on why)
+fault_of e extends (inl memory) = inl memory
+fault_of e extends (inr (damaged, why)) = inr (damaged, extends why)
 
 pub faulted : {X A B : Type 0} (r : Result X OpenFault) → (A → B) → IfErr r (λ e. IsFaultOf e A) → IfErr r (λ e. IsFaultOf e B)
-faulted (Ok x) on h = h
-faulted (Err e) on h = fault_of e on h
+faulted (Ok x) extends h = h
+faulted (Err e) extends h = fault_of e extends h

@@ -42,25 +42,25 @@ refuses_more all a (x ∷ xs) ys (inr (next, takes, later)) = inr (next, takes, 
 
 module _ {D : Type 0} (history : D → History) where
   pub word_before : (old new : State D) → IsRead history old new → KeepsWord (disk_history history new) → KeepsWord (disk_history history old)
-  word_before old new read k = (read.on.frame k).word
+  word_before old new read k = (read.extends.frame k).word
 
   pub read_none : (c : State D) → IsRead history c c
-  read_none c = record { on = grows_itself (pages_of history c); unchanged = refl; same = λ start now has. has; stays = λ k entries has. has }
+  read_none c = record { extends = grows_itself (pages_of history c); unchanged = refl; same = λ start now has. has; stays = λ k entries has. has }
 
   pub read_on : (a b c : State D) → IsRead history a b → IsRead history b c → IsRead history a c
   read_on a b c first later = record {
-    on = grows_trans (pages_of history a) (pages_of history b) (pages_of history c) first.on later.on;
+    extends = grows_trans (pages_of history a) (pages_of history b) (pages_of history c) first.extends later.extends;
     unchanged = later.unchanged ∙ first.unchanged;
     same = λ start now has. later.same start now (first.same start now has);
     stays = λ k entries has. later.stays k entries (first.stays (word_before b c later k) entries has);
   }
 
   failed_from : (a b c : State D) → IsRead history a b → KeepsWord (disk_history history b) → HasFailed history b c → HasFailed history a c
-  failed_from a b c first k (inl stopped) = inl (sym (stopped_same history a.pager b.pager first.on.stays) ∙ stopped)
-  failed_from a b c first k (inr more) = inr (omega (arith, more, (first.on.frame k).failures))
+  failed_from a b c first k (inl stopped) = inl (sym (stopped_same history a.pager b.pager first.extends.stays) ∙ stopped)
+  failed_from a b c first k (inr more) = inr (omega (arith, more, (first.extends.frame k).failures))
 
   pub as_read : {X : Type 0} (P : List Entry → X → Type 0) (r : Result X Refusal) (old new : State D) → ReadsTree history P r old new → IsRead history old new
-  as_read P r old new reads = record { on = reads.on; unchanged = reads.unchanged; same = reads.same; stays = reads.stays }
+  as_read P r old new reads = record { extends = reads.extends; unchanged = reads.unchanged; same = reads.same; stays = reads.stays }
 
 -- ---- faults
 
@@ -136,16 +136,16 @@ module _ {D X Y : Type 0} (history : D → History) (F : List Entry → Type 0) 
     → Type 0) (W : List Entry → Type 0) (old mid new : State D)
     (read : IsRead history old mid) (known : KeepsWord (disk_history history mid) → (all : List Entry) → HasEntries history old all → F all) where
   pub judged_then : (x : X) (y : Y) → Judges history P V (Ok x) mid new → ((all : List Entry) → F all → P all x → Q all y) → Judges history Q W (Ok y) old new
-  judged_then x y later on = record {
+  judged_then x y later extends = record {
     read = read_on history old mid new read later.read;
     kinds = tt;
     answers = λ k all has.
-        let k_mid = word_before history mid new later.read k in on all (known k_mid all has) (later.answers k all (read.stays k_mid all has));
+        let k_mid = word_before history mid new later.read k in extends all (known k_mid all has) (later.answers k all (read.stays k_mid all has));
   }
 
   pub judged_failed : (fault : OpenFault) → Judges history P V (Err fault) mid new → ((all : List Entry) → F all → V all → W all)
       → Judges history Q W (Err fault) old new
-  judged_failed fault later on = record {
+  judged_failed fault later extends = record {
     read = read_on history old mid new read later.read;
     kinds = later.kinds;
     answers = λ k all has.
@@ -153,7 +153,7 @@ module _ {D X Y : Type 0} (history : D → History) (F : List Entry → Type 0) 
         let h = later.answers k all (read.stays k_mid all has) in
         record {
           device = λ is. failed_from history old mid new read k_mid (h.device is);
-          damaged = λ no_device no_memory. on all (known k_mid all has) (h.damaged no_device no_memory);
+          damaged = λ no_device no_memory. extends all (known k_mid all has) (h.damaged no_device no_memory);
         };
   }
 
@@ -161,13 +161,14 @@ module _ {D X Y : Type 0} (history : D → History) (F : List Entry → Type 0) 
 module _ {D X Y : Type 0} (history : D → History) (P : List Entry → X → Type 0) (V : List Entry → Type 0) (Q : List Entry → Y → Type 0) (W : List Entry
     → Type 0) (old new : State D) where
   pub judged_as : (x : X) (y : Y) → Judges history P V (Ok x) old new → ((all : List Entry) → P all x → Q all y) → Judges history Q W (Ok y) old new
-  judged_as x y h on = record { read = h.read; kinds = tt; answers = λ k all has. on all (h.answers k all has) }
+  judged_as x y h extends = record { read = h.read; kinds = tt; answers = λ k all has. extends all (h.answers k all has) }
 
   pub failed_as : (fault : OpenFault) → Judges history P V (Err fault) old new → ((all : List Entry) → V all → W all) → Judges history Q W (Err fault) old new
-  failed_as fault h on = record {
+  failed_as fault h extends = record {
     read = h.read;
     kinds = h.kinds;
-    answers = λ k all has. let f = h.answers k all has in record { device = f.device; damaged = λ no_device no_memory. on all (f.damaged no_device no_memory) };
+    answers = λ k all has. let f = h.answers k all has in record
+        { device = f.device; damaged = λ no_device no_memory. extends all (f.damaged no_device no_memory) };
   }
 
 -- ---- one batch

@@ -19,12 +19,12 @@ use Rattle.file_state.specs.StoredTests.{stored_in}
 use Rattle.file_state.proofs.HoldingTested.{some_tested, stored_is_held}
 use Rattle.file_state.proofs.StoredTested.{gives_stored, stored_is_lawful}
 use Rattle.opening.specs.FileOpening.{IsFileOpened}
-use Rattle.opening.specs.Known.{Known}
-use Rattle.opening.specs.Refusing.{IsRefused}
+use Rattle.opening.specs.TurnStates.{TurnStates}
+use Rattle.opening.specs.Refusing.{IsFileRefused}
 use Rattle.opening.proofs.HoldLemmas.{held_stored, stored_held}
 use Rattle.opening.proofs.TakingLemmas.{loaded_lawful}
 
-module _ {D : Type 0} (history : D → History) (disk : D) (c : State D) (opened : files.IsOpened history disk c) where
+module _ {D : Type 0} (history : D → History) (disk : D) (c : State D) (opened : files.AreCollectionsOpened history disk c) where
   abbrev image : ℕ → List ℕ
   image = reads (now (history disk))
 
@@ -40,7 +40,7 @@ module _ {D : Type 0} (history : D → History) (disk : D) (c : State D) (opened
   inner_word : KeepsWord (trusting trusted (disk_history history c)) → KeepsWord (disk_history history c) × IsTrue trusted
   inner_word k = (tells_word trusted (disk_history history c)).0 k
 
-  there : IsTrue trusted → collections.Holds image held
+  there : IsTrue trusted → collections.HoldsState image held
   there is = stored_is_held image is
 
   opened_with : IsFileOpened history disk (record { start = held; now = held }) (trusting_state trusted c)
@@ -48,11 +48,11 @@ module _ {D : Type 0} (history : D → History) (disk : D) (c : State D) (opened
     lawful = loaded_lawful held (record { lawful = (stored_is_lawful image).0; stored = stored });
     idle = refl;
     running = opened.running;
-    rests = opened.rests;
+    clean = opened.clean;
     pins = opened.pins;
-    no_full_takes = opened.no_full_takes;
+    no_failed_allocations = opened.no_failed_allocations;
     no_failed_reads = λ k. opened.no_failed_reads (inner_word k).0;
-    on = opened.on;
+    extends = opened.extends;
     trusted = λ cs h.
         ((some_tested image).1 (cs, h.file, held_stored image cs h), gives_stored image cs h.file (held_stored image cs h));
     file = trusting_keeps_state history trusted c held held (λ is. opened.begun held (λ _. there is));
@@ -63,19 +63,19 @@ module _ {D : Type 0} (history : D → History) (disk : D) (c : State D) (opened
   }
 
   -- by whatever image is the disk's
-  pub file_opened : (same : ℕ → List ℕ) (kept : State (TrustedDisk D)) (known : Known) → kept ≡ trusting_state (holds_some same) c
+  pub file_opened : (same : ℕ → List ℕ) (kept : State (TrustedDisk D)) (known : TurnStates) → kept ≡ trusting_state (holds_some same) c
       → known ≡ record { start = stored_in same; now = stored_in same } → same ≡ image → IsFileOpened history disk known kept
   file_opened same kept known is are one =
       let kept_is : kept ≡ trusting_state trusted c = subst (λ (i : ℕ → List ℕ). kept ≡ trusting_state (holds_some i) c) one is in
       let known_is : known ≡ record { start = held; now = held } =
       subst (λ (i : ℕ → List ℕ). known ≡ record { start = stored_in i; now = stored_in i }) one are in
       subst (λ (s : State (TrustedDisk D)). IsFileOpened history disk known s) (sym kept_is)
-      (subst (λ (k : Known). IsFileOpened history disk k (trusting_state trusted c)) (sym known_is) opened_with)
+      (subst (λ (k : TurnStates). IsFileOpened history disk k (trusting_state trusted c)) (sym known_is) opened_with)
 
-pub open_refused : {D : Type 0} (history : D → History) (disk back : D) (fault : OpenFault) → files.IsRefused history disk back fault
-    → IsRefused history disk back fault
+pub open_refused : {D : Type 0} (history : D → History) (disk back : D) (fault : OpenFault) → files.AreCollectionsRefused history disk back fault
+    → IsFileRefused history disk back fault
 open_refused history disk back fault refused = record {
-  on = refused.on;
+  extends = refused.extends;
   any_moment = refused.any_moment;
   damaged = λ no_device no_memory k cs h. refused.damaged no_device no_memory k cs h.file;
   foreign = refused.foreign;

@@ -3,12 +3,12 @@ use Rattle.std.proofs.Common.{ℕ, List}
 use Rattle.entries.specs.State.{Collection}
 use Rattle.collections.specs.Holding as files
 use Rattle.file_state.specs.Laws.{AreStored}
-use Rattle.opening.specs.Holding.{Holds}
+use Rattle.opening.specs.Holding.{HoldsCollections}
 use Rattle.opening.proofs.TakingLemmas.{loaded_lawful}
 
-pub stored_held : (image : ℕ → List ℕ) (cs : List Collection) → files.Holds image cs → AreStored cs → Holds image cs
+pub stored_held : (image : ℕ → List ℕ) (cs : List Collection) → files.HoldsState image cs → AreStored cs → HoldsCollections image cs
 stored_held image cs held stored =
     record { lawful = loaded_lawful cs (record { lawful = held.state; stored = stored }); file = held }
 
-pub held_stored : (image : ℕ → List ℕ) (cs : List Collection) → Holds image cs → AreStored cs
+pub held_stored : (image : ℕ → List ℕ) (cs : List Collection) → HoldsCollections image cs → AreStored cs
 held_stored image cs held = λ i c below. (held.lawful.kept i c below).lawful.stored

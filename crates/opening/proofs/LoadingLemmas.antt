@@ -236,19 +236,20 @@ module _ {D : Type 0} (history : D → History) (file : State D) (pair : Entry) 
 
   pub name_judged : {W : Type 0} (r : Result (Unit {0}) OpenFault) → OnOk r (TakesName p pair next) → IfErr r (λ e. IsFaultOf e W)
       → ((all : List Entry) → W → Refuses all p pair) → Judges history Taken Refused r file file
-  name_judged (Ok u) ok err on = judged_so history Taken Refused file file u (read_none history file) (λ k all has. inl ok)
-  name_judged (Err e) ok err on = judged_fault history Taken Refused file file e (read_none history file) (λ all. fault_of e (on all) err)
+  name_judged (Ok u) ok err extends = judged_so history Taken Refused file file u (read_none history file) (λ k all has. inl ok)
+  name_judged (Err e) ok err extends = judged_fault history Taken Refused file file e (read_none history file) (λ all. fault_of e (extends all) err)
 
   pub document_judged : (W : List Entry → Type 0) (r : Result (Unit {0}) OpenFault) (new : State D)
       → Judges history (λ all (u : Unit {0}). TakesDocument all p pair next) W r file new → ((all : List Entry) → W all → Refuses all p pair)
       → Judges history Taken Refused r file new
-  document_judged W (Ok u) new judged on =
+  document_judged W (Ok u) new judged extends =
       judged_as history (λ all (u : Unit {0}). TakesDocument all p pair next) W Taken Refused file new u u judged (λ all t. inr (inl t))
-  document_judged W (Err e) new judged on = failed_as history (λ all (u : Unit {0}). TakesDocument all p pair next) W Taken Refused file new e judged on
+  document_judged W (Err e) new judged extends = failed_as history (λ all (u : Unit {0}). TakesDocument all p pair next) W Taken Refused file new e judged
+      extends
 
 pub ok_on : {A B : Type 0} {X E : Type 0} (r : Result X E) → (A → B) → OnOk r A → OnOk r B
-ok_on (Ok x) on h = on h
-ok_on (Err e) on h = h
+ok_on (Ok x) extends h = extends h
+ok_on (Err e) extends h = h
 
 -- ---- entries, one after the other
 

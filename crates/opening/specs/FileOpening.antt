@@ -4,12 +4,12 @@ use Rattle.std.specs.Prelude.{IfErr, IfOk, MatchResult}
 use Rattle.std.specs.Global.{Vec}
 use Rattle.std.specs.Option.{option_map}
 use Rattle.page.specs.History.{History, KeepsWord, now, reads, IsImage}
-use Rattle.page.specs.Crash.{GoesOn, LeavesOnly, LeavesNow}
+use Rattle.page.specs.Crash.{ExtendsHistory, LeavesOnly, CrashLeaves}
 use Rattle.btree.specs.Keys.{Entry}
 use Rattle.roots.specs.declared.opening.OpenFault.{OpenFault}
 use Rattle.roots.specs.declared.opening.OpenFault.TheVariants as faults
 use Rattle.entries.specs.State.{Collection}
-use Rattle.collections.specs.Calls.{GoesFrom, HasFailed}
+use Rattle.collections.specs.Calls.{ExtendsTurn, HasFailed}
 use Rattle.collections.specs.Entries.{HasEntries, entries_from}
 use Rattle.collections.specs.State.{State}
 use Rattle.collections.specs.Standing.{HasState}
@@ -18,19 +18,19 @@ use Rattle.collections.specs.Versions.{pins_of}
 use Rattle.collections.specs.View.{disk_history, is_changed, is_stopped, pages_of}
 use Rattle.trusted_disk.specs.Trusting.{trusted_history}
 use Rattle.trusted_disk.specs.declared.disk.TrustedDisk.{TrustedDisk}
-use Rattle.opening.specs.Holding.{Holds}
+use Rattle.opening.specs.Holding.{HoldsCollections}
 use Rattle.opening.specs.Judging.{IsLoadingAs, Makes, MakesNone, Progress, RefusesOne, TakesAll}
 use Rattle.opening.specs.Judging.{nothing_read}
 use Rattle.opening.specs.Loading.{named_as, progress_of}
 use Rattle.opening.specs.declared.loading.Loading.{Loading}
 use Rattle.database_model.specs.Lawful.{IsLawfulState}
-use Rattle.opening.specs.Known.{Known}
+use Rattle.opening.specs.TurnStates.{TurnStates}
 
 -- ---- entries of the file
 
 -- A file was only read: its turn goes on, and its collections and its entries stay.
 pub record IsRead {D : Type 0} (history : D → History) (old new : State D) : Type 0 where
-  pub on : GoesFrom history old new
+  pub extends : ExtendsTurn history old new
   pub unchanged : is_changed new ≡ is_changed old
   pub same : (start now : List Collection) → HasState history old start now
       → HasState history new start now
@@ -90,23 +90,23 @@ pub record LoadsFile {D : Type 0} (history : D → History) (result : Result Loa
 -- bytes hold, of which no entry was read: its disk is trusted where they hold collections, and
 -- these are the file's.
 pub record IsFileOpened {D : Type 0} (history : D → History) (disk : D)
-    (known : Known) (kept : State (TrustedDisk D)) : Type 0 where
+    (known : TurnStates) (kept : State (TrustedDisk D)) : Type 0 where
   pub lawful : IsLawfulState known.now
   pub idle : known.start ≡ known.now
   pub running : is_stopped kept ≡ false
-  pub rests : is_changed kept ≡ false
+  pub clean : is_changed kept ≡ false
   pub pins : pins_of kept ≡ []
   -- both counts begin at nothing: pages asked for in vain, and reads that failed
-  pub no_full_takes : (pages_of (trusted_history history) kept).full_takes ≡ 0
+  pub no_failed_allocations : (pages_of (trusted_history history) kept).failed_allocations ≡ 0
   pub no_failed_reads : KeepsWord (disk_history (trusted_history history) kept)
       → (pages_of (trusted_history history) kept).failed_reads ≡ 0
-  pub on : GoesOn (history disk) (inner_history history kept)
-  pub trusted : (cs : List Collection) → Holds (reads (now (history disk))) cs
+  pub extends : ExtendsHistory (history disk) (inner_history history kept)
+  pub trusted : (cs : List Collection) → HoldsCollections (reads (now (history disk))) cs
       → (is_trusted kept ≡ true) × (known.now ≡ cs)
   pub file : HasState (trusted_history history) kept known.now known.now
   pub holds : KeepsWord (disk_history (trusted_history history) kept)
-      → Holds (reads (now (history disk))) known.now
-  pub alone : LeavesNow (disk_history (trusted_history history) kept)
-      (λ image. Holds image known.now)
+      → HoldsCollections (reads (now (history disk))) known.now
+  pub alone : CrashLeaves (disk_history (trusted_history history) kept)
+      (λ image. HoldsCollections image known.now)
   pub any_moment : IsImage (now (history disk)) (reads (now (history disk)))
       → LeavesOnly (history disk) (inner_history history kept) (IsImage (now (history disk)))

@@ -6,6 +6,6 @@ use Rattle.database_model.specs.Lawful.{IsLawfulState}
 
 -- The image holds these collections, which are lawful: the entries of the tree that its root names
 -- spell them.
-pub record Holds (image : ℕ → List ℕ) (collections : List Collection) : Type 0 where
+pub record HoldsCollections (image : ℕ → List ℕ) (collections : List Collection) : Type 0 where
   pub lawful : IsLawfulState collections
-  pub file : files.Holds image collections
+  pub file : files.HoldsState image collections

@@ -1,4 +1,4 @@
-pub mod Known
+pub mod TurnStates
 pub mod Judging
 pub mod Loading
 pub mod Holding

@@ -1,22 +1,23 @@
 -- A disk that is not opened.
 use Rattle.std.specs.Prelude.{◌≡◌, ◌≢◌, ◌<◌, List, Err}
 use Rattle.page.specs.History.{History, KeepsWord, now, reads, IsImage}
-use Rattle.page.specs.Crash.{GoesOn, LeavesOnly}
+use Rattle.page.specs.Crash.{ExtendsHistory, LeavesOnly}
 use Rattle.roots.specs.Root.{root_of}
 use Rattle.roots.specs.declared.opening.OpenFault.{OpenFault}
 use Rattle.roots.specs.declared.opening.OpenFault.TheVariants as faults
 use Rattle.entries.specs.State.{Collection}
-use Rattle.opening.specs.Holding.{Holds}
+use Rattle.opening.specs.Holding.{HoldsCollections}
 
 -- The disk was handed back with this fault.
-pub record IsRefused {D : Type 0} (history : D → History) (disk back : D)
+pub record IsFileRefused {D : Type 0} (history : D → History) (disk back : D)
     (fault : OpenFault) : Type 0 where
-  pub on : GoesOn (history disk) (history back)
+  pub extends : ExtendsHistory (history disk) (history back)
   pub any_moment : IsImage (now (history disk)) (reads (now (history disk)))
       → LeavesOnly (history disk) (history back) (IsImage (now (history disk)))
   -- a fault of the bytes comes only where they hold no collections
   pub damaged : fault ≢ faults.Device → fault ≢ faults.Memory → KeepsWord (history back)
-      → (collections : List Collection) → Holds (reads (now (history disk))) collections → ⊥
+      → (collections : List Collection)
+      → HoldsCollections (reads (now (history disk))) collections → ⊥
   pub foreign : fault ≡ faults.NotADatabase → KeepsWord (history back)
       → root_of (reads (now (history disk)) 0) (reads (now (history disk)) 1)
       ≡ Err faults.NotADatabase

@@ -2,13 +2,13 @@
 //! that the file has collections and nothing else.
 #![tactic(auto)]
 
+mod ghost_state;
 mod judging;
 mod loading;
-mod told;
 
+pub use ghost_state::GhostState;
 pub use judging::Named;
 pub use loading::{Loading, load_file, open_file};
-pub use told::Told;
 
 /// The most collections.
 pub const MOST_COLLECTIONS: usize = 1_000;

@@ -11,12 +11,12 @@ ghost use Rattle.entries.specs.State.{Collection};
 ghost use Rattle.collections.specs.Opening.{HasLimit};
 ghost use Rattle.opening.specs.Judging.{AreLoaded, HasItsKeys, IsFaultOf, IsLoadingAs, IsName, IsStoredAt, Refuses, RefusesOne, Takes, TakesAll, TakesDocument, TakesName, key_count, keys_among, listed_of, nothing_read, numbered};
 ghost use Rattle.opening.specs.Loading.{named_as, progress_of};
-ghost use Rattle.opening.specs.Refusing.{IsRefused};
+ghost use Rattle.opening.specs.Refusing.{IsFileRefused};
 
+use crate::ghost_state::GhostState;
 use crate::judging::{
     Named, add_keys, document_at, index_in, keys_of, name_at, number_in, numbered,
 };
-use crate::told::Told;
 use bson::Document;
 use btree::Entry;
 use collections::Collections as FileCollections;
@@ -88,7 +88,7 @@ fn judge_document<D: Disk>(
 fn take_name(
     alloc: Global,
     loading: &mut Loading,
-    told: &mut Told,
+    told: &mut GhostState,
     entry: &Entry,
 ) -> Result<(), OpenFault>
     requires { IsLoadingAs (map named_as loading.old.names.items) told.old.value.now }
@@ -115,7 +115,7 @@ fn take_document<D: Disk>(
     alloc: Global,
     file: &mut FileCollections<D>,
     loading: &mut Loading,
-    told: &mut Told,
+    told: &mut GhostState,
     number: u32,
     entry: &Entry,
 ) -> Result<(), OpenFault>
@@ -167,7 +167,7 @@ fn take_entry<D: Disk>(
     alloc: Global,
     file: &mut FileCollections<D>,
     loading: &mut Loading,
-    told: &mut Told,
+    told: &mut GhostState,
     entry: &Entry,
 ) -> Result<(), OpenFault>
     requires { IsLoadingAs (map named_as loading.old.names.items) told.old.value.now }
@@ -199,7 +199,7 @@ fn take_entries<D: Disk>(
     alloc: Global,
     file: &mut FileCollections<D>,
     loading: &mut Loading,
-    told: &mut Told,
+    told: &mut GhostState,
     entries: &[Entry],
 ) -> Result<(), OpenFault>
     requires { IsLoadingAs (map named_as loading.old.names.items) told.old.value.now }
@@ -225,7 +225,7 @@ fn load_batch<D: Disk>(
     alloc: Global,
     file: &mut FileCollections<D>,
     loading: &mut Loading,
-    told: &mut Told,
+    told: &mut GhostState,
     from: &[u8],
 ) -> Result<Option<Vec<u8>>, OpenFault>
     requires { IsLoadingAs (map named_as loading.old.names.items) told.old.value.now }
@@ -251,7 +251,7 @@ fn load_entries<D: Disk>(
     alloc: Global,
     file: &mut FileCollections<D>,
     loading: &mut Loading,
-    told: &mut Told,
+    told: &mut GhostState,
 ) -> Result<(), OpenFault>
     requires read { progress_of loading.old told.old.value.now ≡ nothing_read }
     requires names { loading.old.names.items ≡ [] }
@@ -276,7 +276,7 @@ fn load_entries<D: Disk>(
 pub fn load_file<D: Disk>(
     alloc: Global,
     file: &mut FileCollections<D>,
-    told: &mut Told,
+    told: &mut GhostState,
 ) -> Result<Loading, OpenFault>
     requires { told.old.value.now ≡ [] }
     ensures { LoadsFile D.history result told.new.value.now file.old file.new }
@@ -303,15 +303,15 @@ fn open_told<D: Disk>(
     alloc: Global,
     disk: D,
     limit: u32,
-) -> Result<(FileCollections<TrustedDisk<D>>, Told), (D, OpenFault)>
+) -> Result<(FileCollections<TrustedDisk<D>>, GhostState), (D, OpenFault)>
     ghost image: { ℕ → List ℕ }
     ensures opened { IfOk result (λ r. image ≡ reads (now (D.history disk))
         → IsFileOpened D.history disk r.1.value r.0) }
     ensures limit { IfOk result (λ r. HasLimit limit r.0) }
-    ensures refused { IfErr result (λ e. IsRefused D.history disk e.0 e.1) }
+    ensures refused { IfErr result (λ e. IsFileRefused D.history disk e.0 e.1) }
 {
     match FileCollections::open(alloc, disk, limit) {
-        Ok(file) => Ok((file.trusting(), Told::of(&()))),
+        Ok(file) => Ok((file.trusting(), GhostState::of(&()))),
         Err((disk, fault)) => Err((disk, fault)),
     }
 }
@@ -323,10 +323,10 @@ pub fn open_file<D: Disk>(
     alloc: Global,
     disk: D,
     limit: u32,
-) -> Result<(FileCollections<TrustedDisk<D>>, Told), (D, OpenFault)>
+) -> Result<(FileCollections<TrustedDisk<D>>, GhostState), (D, OpenFault)>
     ensures opened { IfOk result (λ r. IsFileOpened D.history disk r.1.value r.0) }
     ensures limit { IfOk result (λ r. HasLimit limit r.0) }
-    ensures refused { IfErr result (λ e. IsRefused D.history disk e.0 e.1) }
+    ensures refused { IfErr result (λ e. IsFileRefused D.history disk e.0 e.1) }
 {
     open_told(alloc, disk, limit)
 }

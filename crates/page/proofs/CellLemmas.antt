@@ -9,8 +9,8 @@ use Rattle.std.proofs.lemmas.Bool.Decides.{nat_tests}
 use Rattle.std.proofs.Math.Seq.{take-add, take-append_seam, drop-append_seam}
 use Rattle.byteorder.specs.Endian.{little_bytes, little_number}
 use Rattle.byteorder.specs.Numbers.{little_number-reads_back, little_from-take, little_from-lt}
-use Rattle.page.specs.Content.{Arm, IsArm, IsItem, IsPlace, Item, Place, arm_size, inline, item_size, place_size, spilled, total}
-use Rattle.page.specs.Format.{arm_bytes, arm_in, branch_cell_size, item_bytes, item_in, leaf_cell_size, numbers_in, place_bytes, place_in, stored_size}
+use Rattle.page.specs.Content.{Pivot, IsPivot, IsItem, IsPlace, Item, Place, pivot_size, inline, item_size, place_size, spilled, total}
+use Rattle.page.specs.Format.{pivot_bytes, pivot_in, branch_cell_size, item_bytes, item_in, leaf_cell_size, numbers_in, place_bytes, place_in, stored_size}
 use Rattle.page.specs.Format.{value_length}
 use Rattle.page.proofs.PlaceLemmas.{AreBytes, bytes_drop, bytes_take, length-joined}
 use Rattle.std.specs.List.{AllByRecursion, flat_map}
@@ -181,49 +181,50 @@ module _ (item : Item) (rest : List ℕ) (sound : IsItem item) where
 
 -- ---- a child of a branch, behind the first
 
-pub length-arm : (arm : Arm) → length (arm_bytes arm) ≡ arm_size arm
-length-arm arm = omega (arith, length-append arm.key (little_bytes 4 arm.child))
+pub length-pivot : (pivot : Pivot) → length (pivot_bytes pivot) ≡ pivot_size pivot
+length-pivot pivot = omega (arith, length-append pivot.key (little_bytes 4 pivot.child))
 
 module _ (b : List ℕ) (small : AreBytes b) (fits : branch_cell_size b ≤ length b) where
-  arm_key_long : length (take (little_number 2 b) (drop 2 b)) ≡ little_number 2 b
-  arm_key_long = length-take-le (little_number 2 b) (drop 2 b) (omega (arith, length-drop 2 b))
+  pivot_key_long : length (take (little_number 2 b) (drop 2 b)) ≡ little_number 2 b
+  pivot_key_long = length-take-le (little_number 2 b) (drop 2 b) (omega (arith, length-drop 2 b))
 
   child_small : AreBytes (drop (little_number 2 b) (drop 2 b))
   child_small = bytes_drop (little_number 2 b) (drop 2 b) (bytes_drop 2 b small)
 
-  pub arm_sound : branch_cell_size b ≤ 1360 → IsArm (arm_in b)
-  arm_sound near = record {
-    size = omega (arith, arm_key_long);
+  pub pivot_sound : branch_cell_size b ≤ 1360 → IsPivot (pivot_in b)
+  pivot_sound near = record {
+    size = omega (arith, pivot_key_long);
     child = omega (arith, little_from-lt 0 4 (drop (little_number 2 b) (drop 2 b)) child_small);
   }
 
-  pub arm_spelled : arm_bytes (arm_in b) ≡ take (branch_cell_size b) b
-  arm_spelled =
-      let one : little_bytes 2 (length (take (little_number 2 b) (drop 2 b))) ≡ take 2 b = ap (little_bytes 2) arm_key_long ∙ two_again b small (omega arith) in
+  pub pivot_spelled : pivot_bytes (pivot_in b) ≡ take (branch_cell_size b) b
+  pivot_spelled =
+      let one : little_bytes 2 (length (take (little_number 2 b) (drop 2 b))) ≡ take 2 b = ap (little_bytes 2) pivot_key_long
+      ∙ two_again b small (omega arith) in
       let three : little_bytes 4 (little_number 4 (drop (little_number 2 b) (drop 2 b))) ≡ take 4 (drop (little_number 2 b) (drop 2 b)) =
       four_again (drop (little_number 2 b) (drop 2 b)) child_small (omega (arith, length-drop (little_number 2 b) (drop 2 b), length-drop 2 b)) in
       (λ i. one i ++ take (little_number 2 b) (drop 2 b) ++ three i) ∙ sym (three_parts b (little_number 2 b))
 
-module _ (arm : Arm) (rest : List ℕ) (sound : IsArm arm) where
-  arm_key_len : little_number 2 (arm_bytes arm ++ rest) ≡ length arm.key
-  arm_key_len = little_number-reads_back 2 (length arm.key) ((arm.key ++ little_bytes 4 arm.child) ++ rest) (omega (arith, sound.size))
+module _ (pivot : Pivot) (rest : List ℕ) (sound : IsPivot pivot) where
+  pivot_key_len : little_number 2 (pivot_bytes pivot ++ rest) ≡ length pivot.key
+  pivot_key_len = little_number-reads_back 2 (length pivot.key) ((pivot.key ++ little_bytes 4 pivot.child) ++ rest) (omega (arith, sound.size))
 
-  arm_key_is : take (little_number 2 (arm_bytes arm ++ rest)) (drop 2 (arm_bytes arm ++ rest)) ≡ arm.key
-  arm_key_is =
-      ap (λ (n : ℕ). take n ((arm.key ++ little_bytes 4 arm.child) ++ rest)) arm_key_len
-      ∙ ap (λ (l : List ℕ). take (length arm.key) l) (append_assoc arm.key (little_bytes 4 arm.child) rest)
-      ∙ take-append_seam arm.key (little_bytes 4 arm.child ++ rest)
+  pivot_key_is : take (little_number 2 (pivot_bytes pivot ++ rest)) (drop 2 (pivot_bytes pivot ++ rest)) ≡ pivot.key
+  pivot_key_is =
+      ap (λ (n : ℕ). take n ((pivot.key ++ little_bytes 4 pivot.child) ++ rest)) pivot_key_len
+      ∙ ap (λ (l : List ℕ). take (length pivot.key) l) (append_assoc pivot.key (little_bytes 4 pivot.child) rest)
+      ∙ take-append_seam pivot.key (little_bytes 4 pivot.child ++ rest)
 
-  child_is : little_number 4 (drop (little_number 2 (arm_bytes arm ++ rest)) (drop 2 (arm_bytes arm ++ rest))) ≡ arm.child
+  child_is : little_number 4 (drop (little_number 2 (pivot_bytes pivot ++ rest)) (drop 2 (pivot_bytes pivot ++ rest))) ≡ pivot.child
   child_is =
       ap (little_number 4)
-      (ap (λ (n : ℕ). drop n ((arm.key ++ little_bytes 4 arm.child) ++ rest)) arm_key_len
-      ∙ ap (λ (l : List ℕ). drop (length arm.key) l) (append_assoc arm.key (little_bytes 4 arm.child) rest)
-      ∙ drop-append_seam arm.key (little_bytes 4 arm.child ++ rest))
-      ∙ little_number-reads_back 4 arm.child rest (omega (arith, sound.child))
+      (ap (λ (n : ℕ). drop n ((pivot.key ++ little_bytes 4 pivot.child) ++ rest)) pivot_key_len
+      ∙ ap (λ (l : List ℕ). drop (length pivot.key) l) (append_assoc pivot.key (little_bytes 4 pivot.child) rest)
+      ∙ drop-append_seam pivot.key (little_bytes 4 pivot.child ++ rest))
+      ∙ little_number-reads_back 4 pivot.child rest (omega (arith, sound.child))
 
-  pub arm_back : arm_in (arm_bytes arm ++ rest) ≡ arm
-  arm_back i = record { key = arm_key_is i; child = child_is i }
+  pub pivot_back : pivot_in (pivot_bytes pivot ++ rest) ≡ pivot
+  pivot_back i = record { key = pivot_key_is i; child = child_is i }
 
-  pub arm_size_back : branch_cell_size (arm_bytes arm ++ rest) ≡ arm_size arm
-  arm_size_back = ap (λ (n : ℕ). 6 + n) arm_key_len
+  pub pivot_size_back : branch_cell_size (pivot_bytes pivot ++ rest) ≡ pivot_size pivot
+  pivot_size_back = ap (λ (n : ℕ). 6 + n) pivot_key_len

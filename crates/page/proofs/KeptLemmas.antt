@@ -6,12 +6,13 @@ use Rattle.std.specs.List.{AllByRecursion, flat_map}
 use Rattle.std.proofs.lemmas.List.{length-map, length-replicate, take-append-drop}
 use Rattle.byteorder.specs.Endian.{little_bytes, little_number}
 use Rattle.byteorder.specs.Numbers.{little_number-reads_back, little_from-lt}
-use Rattle.page.specs.Content.{Item, Arm, IsItem, IsArm, IsLeaf, IsBranch, item_size, arm_size, arms_size, total, item_keys, arm_keys, rise}
-use Rattle.page.specs.Format.{item_bytes, arm_bytes, arms_bytes, leaf_cell_size, branch_cell_size, item_in, arm_in, items_at, arms_at, body_and_zeros}
+use Rattle.page.specs.Content.{Item, Pivot, IsItem, IsPivot, IsLeaf, IsBranch, item_size, pivot_size, pivots_size, total, item_keys, pivot_keys, rise}
+use Rattle.page.specs.Format.{item_bytes, pivot_bytes, pivots_bytes, leaf_cell_size, branch_cell_size, item_in, pivot_in, items_at, pivots_at, body_and_zeros}
 use Rattle.page.specs.Format.{places_in}
 use Rattle.page.specs.Kept.{IsWhole, KeepsLeaf, KeepsBranch, starts}
 use Rattle.page.proofs.PlaceLemmas.{AreBytes, Found, found, bytes_drop, length-joined, read_again, whole_again}
-use Rattle.page.proofs.CellLemmas.{leaf_spelled, leaf_item, length-item, item_back, item_size_back, arm_spelled, arm_sound, length-arm, arm_back, arm_size_back}
+use Rattle.page.proofs.CellLemmas.{leaf_spelled, leaf_item, length-item, item_back, item_size_back, pivot_spelled, pivot_sound, length-pivot, pivot_back}
+use Rattle.page.proofs.CellLemmas.{pivot_size_back}
 use Rattle.page.proofs.CellLemmas.{four_again}
 
 pub zeros_same : (bytes body : List ℕ) (zeros : ℕ) → bytes ≡ body ++ replicate zeros 0 → length bytes ≡ 4080 → bytes ≡ body_and_zeros body
@@ -98,16 +99,17 @@ module _ (bytes : List ℕ) (len : length bytes ≡ 4080) (small : AreBytes byte
   branch_whole [] all = tt
   branch_whole (p ∷ ps) ((fits, near), all) = (omega (arith, fits, len), branch_whole ps all)
 
-  branch_arms : (places : List ℕ)
+  branch_pivots : (places : List ℕ)
       → AllByRecursion (λ (p : ℕ). (p + branch_cell_size (drop p bytes) ≤ length bytes) × (branch_cell_size (drop p bytes) ≤ 1360)) places
-      → AllByRecursion IsArm (map (λ at. arm_in (drop at bytes)) places)
-  branch_arms [] all = tt
-  branch_arms (p ∷ ps) ((fits, near), all) =
-      (arm_sound (drop p bytes) (bytes_drop p bytes small) (omega (arith, fits, length-drop p bytes)) near, branch_arms ps all)
+      → AllByRecursion IsPivot (map (λ at. pivot_in (drop at bytes)) places)
+  branch_pivots [] all = tt
+  branch_pivots (p ∷ ps) ((fits, near), all) =
+      (pivot_sound (drop p bytes) (bytes_drop p bytes small) (omega (arith, fits, length-drop p bytes)) near, branch_pivots ps all)
 
   module _ (count : ℕ) (places : List ℕ) (is : places_in branch_cell_size count 4 bytes ≡ Ok places) where
-    branch_found : Found branch_cell_size arm_in arm_bytes bytes count 4 places
-    branch_found = found branch_cell_size arm_in arm_bytes (λ b s f. arm_spelled b s f) (λ b. omega arith) bytes count 4 places small (omega (arith, len)) is
+    branch_found : Found branch_cell_size pivot_in pivot_bytes bytes count 4 places
+    branch_found = found branch_cell_size pivot_in pivot_bytes (λ b s f. pivot_spelled b s f) (λ b. omega arith) bytes count 4 places small
+        (omega (arith, len)) is
 
     pub branch_count : length places ≡ count
     branch_count = branch_found.count
@@ -115,64 +117,64 @@ module _ (bytes : List ℕ) (len : length bytes ≡ 4080) (small : AreBytes byte
     pub branch_all_whole : AllByRecursion (IsWhole branch_cell_size bytes) places
     branch_all_whole = branch_whole places branch_found.whole
 
-    branch_spelled : bytes ≡ arms_bytes (arms_at bytes places) ++ replicate branch_found.zeros 0
+    branch_spelled : bytes ≡ pivots_bytes (pivots_at bytes places) ++ replicate branch_found.zeros 0
     branch_spelled =
         sym (take-append-drop 4 bytes)
         ∙ ap (λ (l : List ℕ). take 4 bytes ++ l) branch_found.spelled
-        ∙ ap (λ (l : List ℕ). l ++ (flat_map arm_bytes (map (λ at. arm_in (drop at bytes)) places) ++ replicate branch_found.zeros 0))
+        ∙ ap (λ (l : List ℕ). l ++ (flat_map pivot_bytes (map (λ at. pivot_in (drop at bytes)) places) ++ replicate branch_found.zeros 0))
         (sym (four_again bytes small (omega (arith, len))))
-        ∙ sym (append_assoc (little_bytes 4 (little_number 4 bytes)) (flat_map arm_bytes (map (λ at. arm_in (drop at bytes)) places))
+        ∙ sym (append_assoc (little_bytes 4 (little_number 4 bytes)) (flat_map pivot_bytes (map (λ at. pivot_in (drop at bytes)) places))
         (replicate branch_found.zeros 0))
 
-    pub branch_kept : 1 ≤ count → rise (arm_keys (arms_at bytes places)) ≡ true → KeepsBranch bytes places
+    pub branch_kept : 1 ≤ count → rise (pivot_keys (pivots_at bytes places)) ≡ true → KeepsBranch bytes places
     branch_kept some ascending = record {
       len = len;
       whole = branch_all_whole;
       sound = record {
-        some = omega (arith, branch_count, length-map places (λ (at : ℕ). arm_in (drop at bytes)));
+        some = omega (arith, branch_count, length-map places (λ (at : ℕ). pivot_in (drop at bytes)));
         bare = refl;
-        each = (record { size = omega arith; child = omega (arith, little_from-lt 0 4 bytes small) }, branch_arms places branch_found.whole);
+        each = (record { size = omega arith; child = omega (arith, little_from-lt 0 4 bytes small) }, branch_pivots places branch_found.whole);
         ascending = ascending;
         room = omega (
           arith,
           len,
-          body_room bytes (arms_bytes (arms_at bytes places)) branch_found.zeros branch_spelled,
-          length-joined arm_bytes arm_size length-arm (map (λ at. arm_in (drop at bytes)) places),
+          body_room bytes (pivots_bytes (pivots_at bytes places)) branch_found.zeros branch_spelled,
+          length-joined pivot_bytes pivot_size length-pivot (map (λ at. pivot_in (drop at bytes)) places),
         );
       };
-      spelled = zeros_same bytes (arms_bytes (arms_at bytes places)) branch_found.zeros branch_spelled len;
-      placed = branch_found.placed ∙ (λ i. starts (λ x. length-arm x i) 4 (map (λ at. arm_in (drop at bytes)) places));
+      spelled = zeros_same bytes (pivots_bytes (pivots_at bytes places)) branch_found.zeros branch_spelled len;
+      placed = branch_found.placed ∙ (λ i. starts (λ x. length-pivot x i) 4 (map (λ at. pivot_in (drop at bytes)) places));
     }
 
-pub branch_again : (first : Arm) (arms : List Arm) → IsBranch (first ∷ arms) → (bytes : List ℕ) → bytes ≡ body_and_zeros (arms_bytes (first ∷ arms))
-    → arms_at bytes (starts arm_size 4 arms) ≡ first ∷ arms
-branch_again first arms sound bytes is =
-    let rest = replicate {A = ℕ} (4080 - length (arms_bytes (first ∷ arms))) 0 in
-    let behind : drop 4 bytes ≡ flat_map arm_bytes arms ++ rest = ap (λ (l : List ℕ). drop 4 l) is in
+pub branch_again : (first : Pivot) (pivots : List Pivot) → IsBranch (first ∷ pivots) → (bytes : List ℕ) → bytes ≡ body_and_zeros (pivots_bytes (first ∷ pivots))
+    → pivots_at bytes (starts pivot_size 4 pivots) ≡ first ∷ pivots
+branch_again first pivots sound bytes is =
+    let rest = replicate {A = ℕ} (4080 - length (pivots_bytes (first ∷ pivots))) 0 in
+    let behind : drop 4 bytes ≡ flat_map pivot_bytes pivots ++ rest = ap (λ (l : List ℕ). drop 4 l) is in
     let child : little_number 4 bytes ≡ first.child =
-    ap (little_number 4) is ∙ little_number-reads_back 4 first.child (flat_map arm_bytes arms ++ rest) (omega (arith, sound.each.0.child)) in
+    ap (little_number 4) is ∙ little_number-reads_back 4 first.child (flat_map pivot_bytes pivots ++ rest) (omega (arith, sound.each.0.child)) in
     let others =
-    read_again branch_cell_size arm_in arm_bytes arm_size IsArm length-arm (λ x r s. arm_back x r s)
-    (λ x r s. arm_size_back x r s) bytes 4 arms rest sound.each.1 behind in
+    read_again branch_cell_size pivot_in pivot_bytes pivot_size IsPivot length-pivot (λ x r s. pivot_back x r s)
+    (λ x r s. pivot_size_back x r s) bytes 4 pivots rest sound.each.1 behind in
     (λ i. record { key = (sym sound.bare) i; child = child i } ∷ others i)
 
-pub branch_made : (first : Arm) (arms : List Arm) → IsBranch (first ∷ arms) → (bytes : List ℕ) → bytes ≡ body_and_zeros (arms_bytes (first ∷ arms))
-    → KeepsBranch bytes (starts arm_size 4 arms)
-branch_made first arms sound bytes is =
-    let rest = replicate {A = ℕ} (4080 - length (arms_bytes (first ∷ arms))) 0 in
-    let behind : drop 4 bytes ≡ flat_map arm_bytes arms ++ rest = ap (λ (l : List ℕ). drop 4 l) is in
-    let again = branch_again first arms sound bytes is in
+pub branch_made : (first : Pivot) (pivots : List Pivot) → IsBranch (first ∷ pivots) → (bytes : List ℕ) → bytes ≡ body_and_zeros (pivots_bytes (first ∷ pivots))
+    → KeepsBranch bytes (starts pivot_size 4 pivots)
+branch_made first pivots sound bytes is =
+    let rest = replicate {A = ℕ} (4080 - length (pivots_bytes (first ∷ pivots))) 0 in
+    let behind : drop 4 bytes ≡ flat_map pivot_bytes pivots ++ rest = ap (λ (l : List ℕ). drop 4 l) is in
+    let again = branch_again first pivots sound bytes is in
     let others =
-    read_again branch_cell_size arm_in arm_bytes arm_size IsArm length-arm (λ x r s. arm_back x r s)
-    (λ x r s. arm_size_back x r s) bytes 4 arms rest sound.each.1 behind in
-    let long = length-joined arm_bytes arm_size length-arm arms in
+    read_again branch_cell_size pivot_in pivot_bytes pivot_size IsPivot length-pivot (λ x r s. pivot_back x r s)
+    (λ x r s. pivot_size_back x r s) bytes 4 pivots rest sound.each.1 behind in
+    let long = length-joined pivot_bytes pivot_size length-pivot pivots in
     record {
-      len = ap (λ (l : List ℕ). length l) is ∙ body_len (arms_bytes (first ∷ arms)) (omega (arith, sound.room, long));
-      whole = whole_again branch_cell_size arm_in arm_bytes arm_size IsArm length-arm (λ x r s. arm_back x r s)
-          (λ x r s. arm_size_back x r s) bytes 4 arms rest sound.each.1 behind (omega (arith, sound.room));
+      len = ap (λ (l : List ℕ). length l) is ∙ body_len (pivots_bytes (first ∷ pivots)) (omega (arith, sound.room, long));
+      whole = whole_again branch_cell_size pivot_in pivot_bytes pivot_size IsPivot length-pivot (λ x r s. pivot_back x r s)
+          (λ x r s. pivot_size_back x r s) bytes 4 pivots rest sound.each.1 behind (omega (arith, sound.room));
       sound = subst IsBranch (sym again) sound;
-      spelled = is ∙ ap (λ (l : List Arm). body_and_zeros (arms_bytes l)) (sym again);
-      placed = ap (starts arm_size 4) (sym others);
+      spelled = is ∙ ap (λ (l : List Pivot). body_and_zeros (pivots_bytes l)) (sym again);
+      placed = ap (starts pivot_size 4) (sym others);
     }
 
 -- ---- how many cells there are
@@ -181,17 +183,18 @@ pub few_items : (items : List Item) → 6 * length items ≤ total item_size ite
 few_items [] = omega arith
 few_items (item ∷ items) = omega (arith, few_items items)
 
-few_behind : (arms : List Arm) → 6 * length arms ≤ total arm_size arms
+few_behind : (pivots : List Pivot) → 6 * length pivots ≤ total pivot_size pivots
 few_behind [] = omega arith
-few_behind (arm ∷ arms) = omega (arith, few_behind arms)
+few_behind (pivot ∷ pivots) = omega (arith, few_behind pivots)
 
-pub few_arms : (arms : List Arm) → 6 * length arms ≤ 2 + arms_size arms
-few_arms [] = omega arith
-few_arms (first ∷ arms) = omega (arith, few_behind arms)
+pub few_pivots : (pivots : List Pivot) → 6 * length pivots ≤ 2 + pivots_size pivots
+few_pivots [] = omega arith
+few_pivots (first ∷ pivots) = omega (arith, few_behind pivots)
 
 pub leaf_len : (items : List Item) → IsLeaf items → length (body_and_zeros (flat_map item_bytes items)) ≡ 4080
 leaf_len items sound = body_len (flat_map item_bytes items) (omega (arith, sound.room, length-joined item_bytes item_size length-item items))
 
-pub branch_len : (arms : List Arm) → IsBranch arms → length (body_and_zeros (arms_bytes arms)) ≡ 4080
+pub branch_len : (pivots : List Pivot) → IsBranch pivots → length (body_and_zeros (pivots_bytes pivots)) ≡ 4080
 branch_len [] sound = absurd (omega (arith, sound.some))
-branch_len (first ∷ arms) sound = body_len (arms_bytes (first ∷ arms)) (omega (arith, sound.room, length-joined arm_bytes arm_size length-arm arms))
+branch_len (first ∷ pivots) sound = body_len (pivots_bytes (first ∷ pivots))
+    (omega (arith, sound.room, length-joined pivot_bytes pivot_size length-pivot pivots))

@@ -3,7 +3,7 @@ use Rattle.std.proofs.Common.{◌≡◌, ℕ, suc, ◌+◌, ◌-◌, ◌<◌, �
 use Rattle.std.specs.List.{AllByRecursion, flat_map}
 use Rattle.std.proofs.lemmas.List.{length-map, take_all, take_more, get_or-map, append-nil}
 use Rattle.std.proofs.lemmas.Grind.{flat_map-append}
-use Rattle.page.specs.Content.{Arm, IsBranch, total}
+use Rattle.page.specs.Content.{Pivot, IsBranch, total}
 use Rattle.page.specs.Format.{body_and_zeros}
 use Rattle.page.specs.Kept.{starts}
 use Rattle.page.proofs.PlaceLemmas.{starts_more, each_at}
@@ -39,7 +39,7 @@ module _ {C X : Type 0} (f : C → X) (cells : List C) where
         ∙ ap (starts width at) (sym taken)
 
 -- a branch's children are the first one and those behind it
-pub front_child : {C : Type 0} (f : C → Arm) (children : List C) (d : C) → IsBranch (map f children)
+pub front_child : {C : Type 0} (f : C → Pivot) (children : List C) (d : C) → IsBranch (map f children)
     → map f children ≡ f (get_or children 0 d) ∷ map f (take (length children - 1) (drop 1 children))
 front_child f [] d sound = absurd (omega (arith, sound.some))
 front_child {C = C} f (child ∷ children) d sound =

@@ -3,10 +3,10 @@ use Rattle.std.proofs.Common.{◌≡◌, inl, inr, ℕ, ◌+◌, ◌≤◌, Bool
 use Rattle.std.specs.Prelude.{if◌then◌else◌, ◌&&◌, not}
 use Rattle.std.proofs.lemmas.Bool.{cases_lt}
 use Rattle.page.specs.History.{History, Sector, KeepsWord, now, IsImage, LeftSince, Ticks, Syncs}
-use Rattle.page.specs.Crash.{GoesOn, LeavesOnly, LeavesNow, ReadsOnly, HasRead, OnlySyncs}
+use Rattle.page.specs.Crash.{ExtendsHistory, LeavesOnly, CrashLeaves, ReadsOnly, HasRead, OnlySyncs}
 
 -- before the first call
-pub goes_nowhere : (h : History) → GoesOn h h
+pub goes_nowhere : (h : History) → ExtendsHistory h h
 goes_nowhere h = record {
   kept = λ k. k;
   keeps = λ k time. k;
@@ -22,11 +22,11 @@ only_now h image left =
     let same : left.at ≡ h.clock = omega (arith, left.after, left.before) in
     subst (λ (t : ℕ). IsImage (h.moment t) image) same left.left
 
-pub started : (h : History) (P : (ℕ → List ℕ) → Type 0) → LeavesNow h P → LeavesOnly h h P
+pub started : (h : History) (P : (ℕ → List ℕ) → Type 0) → CrashLeaves h P → LeavesOnly h h P
 started h P here k image left = here k image (only_now h image left)
 
 -- one call
-pub goes_one : {writes : Bool} (old new : History) (ok : Bool) → Ticks writes old new ok → GoesOn old new
+pub goes_one : {writes : Bool} (old new : History) (ok : Bool) → Ticks writes old new ok → ExtendsHistory old new
 goes_one {writes = writes} old new ok tick = record {
   kept = tick.kept;
   keeps = λ k time. tick.keeps k (omega (arith, tick.later, time));
@@ -45,7 +45,7 @@ goes_one {writes = writes} old new ok tick = record {
     le_more false m n is = omega arith
 
 -- two runs, one after the other
-pub goes_further : (a b c : History) → GoesOn a b → GoesOn b c → GoesOn a c
+pub goes_further : (a b c : History) → ExtendsHistory a b → ExtendsHistory b c → ExtendsHistory a c
 goes_further a b c first second = record {
   kept = λ k. first.kept (second.kept k);
   keeps = λ k time. second.keeps (first.keeps k (omega (arith, second.clock, time))) time;
@@ -56,8 +56,8 @@ goes_further a b c first second = record {
 }
 
 -- what held up to b and from b on holds of the whole
-pub leaves_further : (a b c : History) (P : (ℕ → List ℕ) → Type 0) → GoesOn b c → LeavesOnly a b P → LeavesOnly b c P → LeavesOnly a c P
-leaves_further a b c P goes first second k image left =
+pub leaves_further : (a b c : History) (P : (ℕ → List ℕ) → Type 0) → ExtendsHistory b c → LeavesOnly a b P → LeavesOnly b c P → LeavesOnly a c P
+leaves_further a b c P continues first second k image left =
     elim (cases_lt b.clock left.at) [
       | inl late ↦ second k image (record { at = left.at; after = omega arith; before = left.before; left = left.left })
       | inr early ↦
@@ -65,12 +65,12 @@ leaves_further a b c P goes first second k image left =
             at = left.at;
             after = left.after;
             before = early;
-            left = subst (λ (s : ℕ → Sector). IsImage s image) (goes.past k left.at early) left.left;
-          } in first (goes.kept k) image then_left
+            left = subst (λ (s : ℕ → Sector). IsImage s image) (continues.past k left.at early) left.left;
+          } in first (continues.kept k) image then_left
     ]
 
 -- one call more, after which a crash leaves what has P
-pub leaves_call : {writes : Bool} (a b c : History) (ok : Bool) (P : (ℕ → List ℕ) → Type 0) → Ticks writes b c ok → LeavesOnly a b P → LeavesNow c P
+pub leaves_call : {writes : Bool} (a b c : History) (ok : Bool) (P : (ℕ → List ℕ) → Type 0) → Ticks writes b c ok → LeavesOnly a b P → CrashLeaves c P
     → LeavesOnly a c P
 leaves_call a b c ok P tick so_far here k image left =
     elim (cases_lt b.clock left.at) [
@@ -87,8 +87,8 @@ leaves_call a b c ok P tick so_far here k image left =
     ]
 
 -- what holds since an earlier moment holds now
-pub leaves_now : (a b : History) (P : (ℕ → List ℕ) → Type 0) → GoesOn a b → LeavesOnly a b P → LeavesNow b P
-leaves_now a b P goes since k image is = since k image (record { at = b.clock; after = goes.clock; before = omega arith; left = is })
+pub leaves_now : (a b : History) (P : (ℕ → List ℕ) → Type 0) → ExtendsHistory a b → LeavesOnly a b P → CrashLeaves b P
+leaves_now a b P continues since k image is = since k image (record { at = b.clock; after = continues.clock; before = omega arith; left = is })
 
 pub leaves_weaker : (a b : History) (P Q : (ℕ → List ℕ) → Type 0) → ((image : ℕ → List ℕ) → P image → Q image) → LeavesOnly a b P → LeavesOnly a b Q
 leaves_weaker a b P Q to since k image left = to image (since k image left)
@@ -100,30 +100,30 @@ reads_moments old new only keeps image left = subst (λ (s : ℕ → Sector). Is
 
 pub reads_nothing : (h : History) → ReadsOnly h h
 reads_nothing h = record {
-  on = goes_nowhere h;
+  extends = goes_nowhere h;
   same = λ keeps. refl;
   still = λ keeps t low high. let now_is : t ≡ h.clock = omega arith in ap h.moment now_is;
 }
 
 -- a moment up to b, or one behind it
-still_further : (a b c : History) → ReadsOnly a b → GoesOn b c → KeepsWord c → (t : ℕ) → a.clock ≤ t → t ≤ b.clock → c.moment t ≡ now a
-still_further a b c first on keeps t low high = on.past keeps t high ∙ first.still (on.kept keeps) t low high
+still_further : (a b c : History) → ReadsOnly a b → ExtendsHistory b c → KeepsWord c → (t : ℕ) → a.clock ≤ t → t ≤ b.clock → c.moment t ≡ now a
+still_further a b c first extends keeps t low high = extends.past keeps t high ∙ first.still (extends.kept keeps) t low high
 
 pub reads_further : (a b c : History) → ReadsOnly a b → ReadsOnly b c → ReadsOnly a c
 reads_further a b c first second = record {
-  on = goes_further a b c first.on second.on;
-  same = λ keeps. second.same keeps ∙ first.same (second.on.kept keeps);
+  extends = goes_further a b c first.extends second.extends;
+  same = λ keeps. second.same keeps ∙ first.same (second.extends.kept keeps);
   still = λ keeps t low high.
       elim (cases_lt b.clock t) [
-        | inl late ↦ second.still keeps t (omega arith) high ∙ first.same (second.on.kept keeps)
-        | inr early ↦ still_further a b c first second.on keeps t low early
+        | inl late ↦ second.still keeps t (omega arith) high ∙ first.same (second.extends.kept keeps)
+        | inr early ↦ still_further a b c first second.extends keeps t low early
       ];
 }
 
 -- one call that left the sectors as they are
 pub reads_one : {writes : Bool} (old new : History) (ok : Bool) → Ticks writes old new ok → (KeepsWord new → now new ≡ now old) → ReadsOnly old new
 reads_one old new ok tick same = record {
-  on = goes_one old new ok tick;
+  extends = goes_one old new ok tick;
   same = same;
   still = λ keeps t low high.
       elim (cases_lt old.clock t) [
@@ -139,7 +139,7 @@ read_nothing h = record { reads = reads_nothing h; clear = λ keeps. refl }
 pub read_further : (a b c : History) → HasRead a b → HasRead b c → HasRead a c
 read_further a b c first second = record {
   reads = reads_further a b c first.reads second.reads;
-  clear = λ keeps. second.clear keeps ∙ first.clear (second.reads.on.kept keeps);
+  clear = λ keeps. second.clear keeps ∙ first.clear (second.reads.extends.kept keeps);
 }
 
 -- a sync after them

@@ -9,18 +9,19 @@ use Rattle.std.proofs.Math.Seq.{drop-append_seam}
 use Rattle.byteorder.specs.Endian.{little_bytes, little_number}
 use Rattle.byteorder.specs.Numbers.{little_number-reads_back}
 use Rattle.outcome.specs.Outcome.{unless}
-use Rattle.page.specs.Content.{Item, Arm, Content, leaf, branch, chain, free_list, IsContent, IsLeaf, IsBranch, IsItem, IsArm, item_size, arm_size, item_keys}
-use Rattle.page.specs.Content.{arm_keys, rise}
-use Rattle.page.specs.Format.{header, page_bytes, body_and_zeros, body_of, item_bytes, arm_bytes, arms_bytes, item_in, arm_in, items_at, arms_at}
+use Rattle.page.specs.Content.{Item, Pivot, Content, leaf, branch, chain, free_list, IsContent, IsLeaf, IsBranch, IsItem, IsPivot, item_size, pivot_size}
+use Rattle.page.specs.Content.{item_keys}
+use Rattle.page.specs.Content.{pivot_keys, rise}
+use Rattle.page.specs.Format.{header, page_bytes, body_and_zeros, body_of, item_bytes, pivot_bytes, pivots_bytes, item_in, pivot_in, items_at, pivots_at}
 use Rattle.page.specs.Format.{leaf_cell_size, branch_cell_size, places_in, leaf_in, branch_in, free_list_in, numbers_in, are_zeros, content_in, generation_in}
-use Rattle.page.specs.Format.{sheet_in}
+use Rattle.page.specs.Format.{model_in}
 use Rattle.page.specs.PageLaws.{ReadsBack}
 use Rattle.page.specs.declared.page_fault.PageFault.TheVariants as faults
 use Rattle.page.specs.Kept.{starts}
 use Rattle.page.proofs.PlaceLemmas.{found_again, zeros_are}
-use Rattle.page.proofs.CellLemmas.{length-item, item_back, item_size_back, length-arm, arm_back, arm_size_back, numbers_len, numbers_back}
-use Rattle.page.proofs.KeptLemmas.{leaf_again, branch_again, few_items, few_arms, leaf_len, branch_len, body_len}
-use Rattle.page.proofs.ReadLemmas.{leaf_judged, branch_judged, sheet_planned}
+use Rattle.page.proofs.CellLemmas.{length-item, item_back, item_size_back, length-pivot, pivot_back, pivot_size_back, numbers_len, numbers_back}
+use Rattle.page.proofs.KeptLemmas.{leaf_again, branch_again, few_items, few_pivots, leaf_len, branch_len, body_len}
+use Rattle.page.proofs.ReadLemmas.{leaf_judged, branch_judged, model_planned}
 use Rattle.page.proofs.ReadsBack.{chain_read_back}
 
 -- ---- contents
@@ -35,18 +36,19 @@ leaf_back items sound =
     leaf_judged (length items) body (starts item_size 0 items) true sound.some places (ap (λ (l : List Item). rise (item_keys l)) again ∙ sound.ascending)
     ∙ ap (λ (l : List Item). Ok (leaf l)) again
 
-branch_back : (arms : List Arm) → IsBranch arms → branch_in (length arms) (body_and_zeros (arms_bytes arms)) ≡ Ok (branch arms)
+branch_back : (pivots : List Pivot) → IsBranch pivots → branch_in (length pivots) (body_and_zeros (pivots_bytes pivots)) ≡ Ok (branch pivots)
 branch_back [] sound = absurd (omega (arith, sound.some))
-branch_back (first ∷ arms) sound =
-    let body = body_and_zeros (arms_bytes (first ∷ arms)) in
-    let less : suc (length arms) - 1 ≡ length arms = omega arith in
-    let places : places_in branch_cell_size (suc (length arms) - 1) 4 body ≡ Ok (starts arm_size 4 arms) =
+branch_back (first ∷ pivots) sound =
+    let body = body_and_zeros (pivots_bytes (first ∷ pivots)) in
+    let less : suc (length pivots) - 1 ≡ length pivots = omega arith in
+    let places : places_in branch_cell_size (suc (length pivots) - 1) 4 body ≡ Ok (starts pivot_size 4 pivots) =
     ap (λ (n : ℕ). places_in branch_cell_size n 4 body) less
-    ∙ found_again branch_cell_size arm_in arm_bytes arm_size IsArm length-arm (λ x r s. arm_back x r s) (λ x r s. arm_size_back x r s)
-    (λ x s. s.size) body 4 arms (4080 - length (arms_bytes (first ∷ arms))) sound.each.1 refl in
-    let again : arms_at body (starts arm_size 4 arms) ≡ first ∷ arms = branch_again first arms sound body refl in
-    branch_judged (suc (length arms)) body (starts arm_size 4 arms) true sound.some places (ap (λ (l : List Arm). rise (arm_keys l)) again ∙ sound.ascending)
-    ∙ ap (λ (l : List Arm). Ok (branch l)) again
+    ∙ found_again branch_cell_size pivot_in pivot_bytes pivot_size IsPivot length-pivot (λ x r s. pivot_back x r s) (λ x r s. pivot_size_back x r s)
+    (λ x s. s.size) body 4 pivots (4080 - length (pivots_bytes (first ∷ pivots))) sound.each.1 refl in
+    let again : pivots_at body (starts pivot_size 4 pivots) ≡ first ∷ pivots = branch_again first pivots sound body refl in
+    branch_judged (suc (length pivots)) body (starts pivot_size 4 pivots) true sound.some places (ap (λ (l : List Pivot). rise (pivot_keys l)) again
+    ∙ sound.ascending)
+    ∙ ap (λ (l : List Pivot). Ok (branch l)) again
 
 list_passes : (t : Bool) (content : Content) → t ≡ false → unless t faults.Length (Ok content) ≡ Ok content
 list_passes t content is = rw is refl
@@ -87,7 +89,7 @@ generation_back kind count page born generation body low high near short some un
 module _ (generation page born kind count : ℕ) (content : Content) (body : List ℕ) (near : page < 2 ^ 32) (short : born < 2 ^ 64) (some : 1 ≤ born)
     (until : born ≤ generation)
     (low : 1 ≤ kind) (high : kind ≤ 4) (few : count < 2 ^ 16) (len : length body ≡ 4080) (back : content_in kind count body ≡ Ok content) where
-  pub whole_back : sheet_in page generation (header kind count page born ++ body) ≡ Ok (record { page = page; generation = born; content = content })
+  pub whole_back : model_in page generation (header kind count page born ++ body) ≡ Ok (record { page = page; generation = born; content = content })
   whole_back =
       let bs = header kind count page born ++ body in
       let all : length bs ≡ 4096 = omega (arith, len) in
@@ -95,23 +97,24 @@ module _ (generation page born kind count : ℕ) (content : Content) (body : Lis
       let front : count ≡ little_number 2 (take 4094 (drop 2 bs)) =
       sym (ap (little_number 2) two ∙ little_number-reads_back 2 count (drop 4 bs) (omega arith)) in
       let behind : take 4080 body ≡ body = take_all 4080 body (omega (arith, len)) in
-      sheet_planned page generation born count bs (Ok content) all (generation_back kind count page born generation body low high near short some until) front
+      model_planned page generation born count bs (Ok content) all (generation_back kind count page born generation body low high near short some until) front
       (ap (content_in kind count) behind ∙ back)
 
 pub reads_back : ReadsBack
 unfolding page_bytes
-reads_back generation sheet sound = back sheet.page sheet.generation sheet.content sound.page sound.small sound.some sound.until sound.content
+reads_back generation model sound = back model.page model.generation model.content sound.page sound.small sound.some sound.until sound.content
   where
     back : (page born : ℕ) (content : Content) → page < 2 ^ 32 → born < 2 ^ 64 → 1 ≤ born → born ≤ generation → IsContent content
-        → sheet_in page generation (page_bytes (record { page = page; generation = born; content = content }))
+        → model_in page generation (page_bytes (record { page = page; generation = born; content = content }))
         ≡ Ok (record { page = page; generation = born; content = content })
     back page born (leaf items) near short some until is =
         whole_back generation page born 1 (length items) (leaf items) (body_and_zeros (flat_map item_bytes items)) near short some until (omega arith)
         (omega arith)
         (omega (arith, few_items items, is.room)) (leaf_len items is) (leaf_back items is)
-    back page born (branch arms) near short some until is =
-        whole_back generation page born 2 (length arms) (branch arms) (body_and_zeros (arms_bytes arms)) near short some until (omega arith) (omega arith)
-        (omega (arith, few_arms arms, is.room)) (branch_len arms is) (branch_back arms is)
+    back page born (branch pivots) near short some until is =
+        whole_back generation page born 2 (length pivots) (branch pivots) (body_and_zeros (pivots_bytes pivots)) near short some until (omega arith)
+        (omega arith)
+        (omega (arith, few_pivots pivots, is.room)) (branch_len pivots is) (branch_back pivots is)
     back page born (chain next bytes) near short some until (small, fits, full) =
         chain_read_back page born next generation bytes near small short some until fits full
     back page born (free_list next pages) near short some until is =

@@ -14,8 +14,9 @@ use Rattle.std.proofs.lemmas.Bool.Decides.{nat_tests}
 use Rattle.std.proofs.Math.Seq.{drop-cons}
 use Rattle.byteorder.specs.Endian.{little_number}
 use Rattle.outcome.specs.Outcome.{◌>>=◌, unless}
-use Rattle.page.specs.Content.{Content, leaf, branch, item_keys, arm_keys, is_below, rise, rise_above}
-use Rattle.page.specs.Format.{item_in, arm_in, items_at, arms_at, leaf_cell_size, branch_cell_size, Sheet, generation_in, content_in, sheet_in, places_in}
+use Rattle.page.specs.Content.{Content, leaf, branch, item_keys, pivot_keys, is_below, rise, rise_above}
+use Rattle.page.specs.Format.{item_in, pivot_in, items_at, pivots_at, leaf_cell_size, branch_cell_size, PageModel, generation_in, content_in, model_in}
+use Rattle.page.specs.Format.{places_in}
 use Rattle.page.specs.Format.{leaf_in, branch_in, numbers_in}
 use Rattle.page.specs.declared.page_fault.PageFault.{PageFault}
 use Rattle.page.specs.declared.page_fault.PageFault.TheVariants as faults
@@ -136,9 +137,9 @@ leaf_rises bytes (p ∷ ps) some =
     ap (rise_above (item_in (drop p bytes)).key) (sym (map-map (λ item. item.key) (λ at. item_in (drop at bytes)) ps))
 
 pub branch_rises : (bytes places : List ℕ)
-    → rise_above [] (map (λ at. (arm_in (drop at bytes)).key) places) ≡ rise (arm_keys (arms_at bytes places))
+    → rise_above [] (map (λ at. (pivot_in (drop at bytes)).key) places) ≡ rise (pivot_keys (pivots_at bytes places))
 branch_rises bytes places =
-    ap (rise_above []) (sym (map-map (λ arm. arm.key) (λ at. arm_in (drop at bytes)) places))
+    ap (rise_above []) (sym (map-map (λ pivot. pivot.key) (λ at. pivot_in (drop at bytes)) places))
 
 module _ (count : ℕ) (bytes places : List ℕ) where
   pub leaf_judged : (ascends : Bool) → 0 < count → places_in leaf_cell_size count 0 bytes ≡ Ok places → rise (item_keys (items_at bytes places)) ≡ ascends
@@ -148,8 +149,8 @@ module _ (count : ℕ) (bytes places : List ℕ) where
       rw (t, is, rises) refl
 
   pub branch_judged : (ascends : Bool) → 2 ≤ count → places_in branch_cell_size (count - 1) 4 bytes ≡ Ok places
-      → rise (arm_keys (arms_at bytes places)) ≡ ascends
-      → branch_in count bytes ≡ unless (not ascends) faults.Order (Ok (branch (arms_at bytes places)))
+      → rise (pivot_keys (pivots_at bytes places)) ≡ ascends
+      → branch_in count bytes ≡ unless (not ascends) faults.Order (Ok (branch (pivots_at bytes places)))
   branch_judged ascends some is rises =
       let t : nat_lt count 2 ≡ false = grind (arith, nat_tests, some) in
       rw (t, is, rises) refl
@@ -161,28 +162,28 @@ pub numbers_step : (front : List ℕ) (count i : ℕ) (bytes : List ℕ) → i <
     ++ numbers_in (count - (i + 1)) (drop (4 * (i + 1)) bytes)
 numbers_step front count i bytes within =
     let e : count - i ≡ suc (count - (i + 1)) = omega arith in
-    let on : 4 * i + 4 ≡ 4 * (i + 1) = omega arith in
+    let extends : 4 * i + 4 ≡ 4 * (i + 1) = omega arith in
     ap (λ (n : ℕ). front ++ numbers_in n (drop (4 * i) bytes)) e
     ∙ ap (λ (l : List ℕ). front ++ (little_number 4 (drop (4 * i) bytes) ∷ numbers_in (count - (i + 1)) l))
-    (drop-drop 4 (4 * i) bytes ∙ ap (λ (n : ℕ). drop n bytes) on)
+    (drop-drop 4 (4 * i) bytes ∙ ap (λ (n : ℕ). drop n bytes) extends)
     ∙ sym (append_assoc front (little_number 4 (drop (4 * i) bytes) ∷ []) (numbers_in (count - (i + 1)) (drop (4 * (i + 1)) bytes)))
 
 -- ---- a whole page
 
-abbrev sheet_by : ℕ → ℕ → Content → Result Sheet PageFault
-sheet_by number born inside = Ok (record { page = number; generation = born; content = inside })
+abbrev model_by : ℕ → ℕ → Content → Result PageModel PageFault
+model_by number born inside = Ok (record { page = number; generation = born; content = inside })
 
 -- what a page gives whose generation was read
-pub sheet_planned : (number generation born count : ℕ) (bytes : List ℕ) (inside : Result Content PageFault) → length bytes ≡ 4096
+pub model_planned : (number generation born count : ℕ) (bytes : List ℕ) (inside : Result Content PageFault) → length bytes ≡ 4096
     → generation_in number generation bytes ≡ Ok born
     → count ≡ little_number 2 (take 4094 (drop 2 bytes)) → content_in (slice_index bytes 0) count (take 4080 (drop 16 bytes)) ≡ inside
-    → sheet_in number generation bytes ≡ (inside >>= sheet_by number born)
-sheet_planned number generation born count bytes inside len gen is found =
+    → model_in number generation bytes ≡ (inside >>= model_by number born)
+model_planned number generation born count bytes inside len gen is found =
     let two : take 4094 (drop 2 bytes) ≡ drop 2 bytes = take_all 4094 (drop 2 bytes) (omega (arith, len, length-drop 2 bytes)) in
     let body : take 4080 (drop 16 bytes) ≡ drop 16 bytes = take_all 4080 (drop 16 bytes) (omega (arith, len, length-drop 16 bytes)) in
     let same : content_in (slice_index bytes 0) count (take 4080 (drop 16 bytes))
     ≡ content_in (slice_index bytes 0) (little_number 2 (drop 2 bytes)) (drop 16 bytes) =
     (λ i. content_in (slice_index bytes 0) ((is ∙ ap (little_number 2) two) i) (body i)) in
-    ap (λ (r : Result ℕ PageFault). r >>= λ born. content_in (slice_index bytes 0) (little_number 2 (drop 2 bytes)) (drop 16 bytes) >>= sheet_by number born)
+    ap (λ (r : Result ℕ PageFault). r >>= λ born. content_in (slice_index bytes 0) (little_number 2 (drop 2 bytes)) (drop 16 bytes) >>= model_by number born)
     gen
-    ∙ ap (λ (r : Result Content PageFault). r >>= sheet_by number born) (sym same ∙ found)
+    ∙ ap (λ (r : Result Content PageFault). r >>= model_by number born) (sym same ∙ found)

@@ -1,7 +1,7 @@
 -- What the views of cells stand for.
 use Rattle.std.specs.Prelude.{ℕ, List}
-use Rattle.page.specs.Content.{Place, inline, spilled, Item, Arm}
-use Rattle.page.specs.Format.{leaf_cell_size, branch_cell_size, item_in, arm_in}
+use Rattle.page.specs.Content.{Place, inline, spilled, Item, Pivot}
+use Rattle.page.specs.Format.{leaf_cell_size, branch_cell_size, item_in, pivot_in}
 use Rattle.page.specs.declared.cells.CellForm.{CellForm}
 use Rattle.page.specs.declared.cells.CellForm.TheVariants as forms
 use Rattle.page.specs.declared.cells.Stored.{Stored}
@@ -16,8 +16,8 @@ place_of (stored.Chained len first) = spilled len first
 abbrev pub item_of : Cell → Item
 item_of cell = record { key = cell.key.now; place = place_of cell.stored }
 
-abbrev pub arm_of : Child → Arm
-arm_of child = record { key = child.key.now; child = child.page }
+abbrev pub pivot_of : Child → Pivot
+pivot_of child = record { key = child.key.now; child = child.page }
 
 -- the size of a cell of this form, by the lengths in its bytes, and its key
 abbrev pub size_by : CellForm → List ℕ → ℕ
@@ -26,4 +26,4 @@ size_by forms.Branch bytes = branch_cell_size bytes
 
 abbrev pub key_by : CellForm → List ℕ → List ℕ
 key_by forms.Leaf bytes = (item_in bytes).key
-key_by forms.Branch bytes = (arm_in bytes).key
+key_by forms.Branch bytes = (pivot_in bytes).key

@@ -16,14 +16,14 @@ pub record Item : Type 0 where
   pub place : Place
 
 -- a child of a branch: its keys are not below this one, which is empty at the first child
-pub record Arm : Type 0 where
+pub record Pivot : Type 0 where
   pub key : List ℕ
   pub child : ℕ
 
 -- A page of a chain or of the free list names the next one, or 0 at the end.
 pub data Content : Type 0 where
   leaf : List Item → Content
-  branch : List Arm → Content
+  branch : List Pivot → Content
   chain : ℕ → List ℕ → Content
   free_list : ℕ → List ℕ → Content
 
@@ -36,17 +36,17 @@ place_size (spilled len page) = 4
 abbrev pub item_size : Item → ℕ
 item_size item = 6 + length item.key + place_size item.place
 
-abbrev pub arm_size : Arm → ℕ
-arm_size arm = 6 + length arm.key
+abbrev pub pivot_size : Pivot → ℕ
+pivot_size pivot = 6 + length pivot.key
 
 abbrev pub total : {X : Type 0} → (X → ℕ) → List X → ℕ
 total size [] = 0
 total size (x ∷ xs) = size x + total size xs
 
 -- The first child of a branch has no key.
-abbrev pub arms_size : List Arm → ℕ
-arms_size [] = 0
-arms_size (first ∷ arms) = 4 + total arm_size arms
+abbrev pub pivots_size : List Pivot → ℕ
+pivots_size [] = 0
+pivots_size (first ∷ pivots) = 4 + total pivot_size pivots
 
 -- ---- order
 
@@ -74,18 +74,18 @@ pub record IsItem (item : Item) : Type 0 where
   pub size : item_size item ≤ 1360
   pub place : IsPlace item.place
 
-pub record IsArm (arm : Arm) : Type 0 where
-  pub size : arm_size arm ≤ 1360
-  pub child : arm.child < 2 ^ 32
+pub record IsPivot (pivot : Pivot) : Type 0 where
+  pub size : pivot_size pivot ≤ 1360
+  pub child : pivot.child < 2 ^ 32
 
 abbrev pub item_keys : List Item → List (List ℕ)
 item_keys items = map (λ item. item.key) items
 
-abbrev pub arm_keys : List Arm → List (List ℕ)
-arm_keys arms = map (λ arm. arm.key) arms
+abbrev pub pivot_keys : List Pivot → List (List ℕ)
+pivot_keys pivots = map (λ pivot. pivot.key) pivots
 
-abbrev pub arm_pages : List Arm → List ℕ
-arm_pages arms = map (λ arm. arm.child) arms
+abbrev pub pivot_pages : List Pivot → List ℕ
+pivot_pages pivots = map (λ pivot. pivot.child) pivots
 
 -- One cell or more, in ascending order of their keys, that find room.
 pub record IsLeaf (items : List Item) : Type 0 where
@@ -94,24 +94,24 @@ pub record IsLeaf (items : List Item) : Type 0 where
   pub ascending : rise (item_keys items) ≡ true
   pub room : total item_size items ≤ 4080
 
-abbrev pub first_key : List Arm → List ℕ
+abbrev pub first_key : List Pivot → List ℕ
 first_key [] = []
-first_key (first ∷ arms) = first.key
+first_key (first ∷ pivots) = first.key
 
 -- Two children or more, in ascending order of their keys, of which the first is empty, that find
 -- room.
-pub record IsBranch (arms : List Arm) : Type 0 where
-  pub some : 2 ≤ length arms
-  pub bare : first_key arms ≡ []
-  pub each : AllByRecursion IsArm arms
-  pub ascending : rise (arm_keys arms) ≡ true
-  pub room : arms_size arms ≤ 4080
+pub record IsBranch (pivots : List Pivot) : Type 0 where
+  pub some : 2 ≤ length pivots
+  pub bare : first_key pivots ≡ []
+  pub each : AllByRecursion IsPivot pivots
+  pub ascending : rise (pivot_keys pivots) ≡ true
+  pub room : pivots_size pivots ≤ 4080
 
 -- What a tree may have: a page of a chain that names the next one is full, and a list of free pages
 -- has no place there.
 abbrev pub is_of_tree : Content → Bool
 is_of_tree (leaf items) = true
-is_of_tree (branch arms) = true
+is_of_tree (branch pivots) = true
 is_of_tree (chain next bytes) = next == 0 || length bytes == 4076
 is_of_tree (free_list next pages) = false
 
@@ -119,7 +119,7 @@ is_of_tree (free_list next pages) = false
 -- most 1,019 numbers.
 abbrev pub IsContent : Content → Type 0
 IsContent (leaf items) = IsLeaf items
-IsContent (branch arms) = IsBranch arms
+IsContent (branch pivots) = IsBranch pivots
 IsContent (chain next bytes) =
     (next < 2 ^ 32) × (length bytes ≤ 4076) × ((next ≡ 0) ⊎ (length bytes ≡ 4076))
 IsContent (free_list next pages) =

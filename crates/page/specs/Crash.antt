@@ -5,7 +5,7 @@ use Rattle.page.specs.History.{LeftSince, Syncs, reads}
 
 -- The disk went on from old to new. Its word never comes back, and ends only where the clock is at
 -- its greatest value.
-pub record GoesOn (old new : History) : Type 0 where
+pub record ExtendsHistory (old new : History) : Type 0 where
   pub kept : KeepsWord new → KeepsWord old
   pub keeps : KeepsWord old → HasTime new → KeepsWord new
   pub clock : old.clock ≤ new.clock
@@ -19,8 +19,8 @@ LeavesOnly old new P =
     KeepsWord new → (image : ℕ → List ℕ) → LeftSince new old.clock image → P image
 
 -- a crash now leaves an image that has P
-abbrev pub LeavesNow : History → ((ℕ → List ℕ) → Type 0) → Type 0
-LeavesNow h P = KeepsWord h → (image : ℕ → List ℕ) → IsImage (now h) image → P image
+abbrev pub CrashLeaves : History → ((ℕ → List ℕ) → Type 0) → Type 0
+CrashLeaves h P = KeepsWord h → (image : ℕ → List ℕ) → IsImage (now h) image → P image
 
 -- a crash leaves in the sector what a read gives
 abbrev pub IsDurable : Sector → Type 0
@@ -55,7 +55,7 @@ IsImageOutside sectors Written image = (k : ℕ) → (Written k → ⊥) → May
 
 -- The calls only read: at every moment the sectors were as they are.
 pub record ReadsOnly (old new : History) : Type 0 where
-  pub on : GoesOn old new
+  pub extends : ExtendsHistory old new
   pub same : KeepsWord new → now new ≡ now old
   pub still : KeepsWord new → (t : ℕ) → old.clock ≤ t → t ≤ new.clock → new.moment t ≡ now old
 

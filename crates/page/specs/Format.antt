@@ -7,12 +7,12 @@ use Rattle.std.specs.Prelude.{drop, replicate, slice_index, Result, Ok}
 use Rattle.outcome.specs.Outcome.{◌>>=◌, unless}
 use Rattle.std.specs.List.{flat_map, list_all}
 use Rattle.byteorder.specs.Endian.{little_bytes, little_number}
-use Rattle.page.specs.Content.{Place, inline, spilled, Item, Arm, Content, leaf, branch, chain}
-use Rattle.page.specs.Content.{free_list, item_keys, arm_keys, rise}
+use Rattle.page.specs.Content.{Place, inline, spilled, Item, Pivot, Content, leaf, branch, chain}
+use Rattle.page.specs.Content.{free_list, item_keys, pivot_keys, rise}
 use Rattle.page.specs.declared.page_fault.PageFault.{PageFault}
 use Rattle.page.specs.declared.page_fault.PageFault.TheVariants as faults
 
-pub record Sheet : Type 0 where
+pub record PageModel : Type 0 where
   pub page : ℕ
   pub generation : ℕ
   pub content : Content
@@ -34,31 +34,31 @@ item_bytes item =
     ++ place_bytes item.place
 
 -- a child behind the first: the length of its key, the key, and its page
-abbrev pub arm_bytes : Arm → List ℕ
-arm_bytes arm = little_bytes 2 (length arm.key) ++ arm.key ++ little_bytes 4 arm.child
+abbrev pub pivot_bytes : Pivot → List ℕ
+pivot_bytes pivot = little_bytes 2 (length pivot.key) ++ pivot.key ++ little_bytes 4 pivot.child
 
-abbrev pub arms_bytes : List Arm → List ℕ
-arms_bytes [] = []
-arms_bytes (first ∷ arms) = little_bytes 4 first.child ++ flat_map arm_bytes arms
+abbrev pub pivots_bytes : List Pivot → List ℕ
+pivots_bytes [] = []
+pivots_bytes (first ∷ pivots) = little_bytes 4 first.child ++ flat_map pivot_bytes pivots
 
 -- ---- the bytes of a page
 
 abbrev pub kind_of : Content → ℕ
 kind_of (leaf items) = 1
-kind_of (branch arms) = 2
+kind_of (branch pivots) = 2
 kind_of (chain next bytes) = 3
 kind_of (free_list next pages) = 4
 
 abbrev pub count_of : Content → ℕ
 count_of (leaf items) = length items
-count_of (branch arms) = length arms
+count_of (branch pivots) = length pivots
 count_of (chain next bytes) = length bytes
 count_of (free_list next pages) = length pages
 
 -- what stands behind the header, up to the zeros
 abbrev pub body_of : Content → List ℕ
 body_of (leaf items) = flat_map item_bytes items
-body_of (branch arms) = arms_bytes arms
+body_of (branch pivots) = pivots_bytes pivots
 body_of (chain next bytes) = little_bytes 4 next ++ bytes
 body_of (free_list next pages) = little_bytes 4 next ++ flat_map (λ page. little_bytes 4 page) pages
 
@@ -72,7 +72,7 @@ header kind count page generation =
 -- The bytes of a chain or of a list of numbers. A leaf and a branch find room by themselves.
 abbrev pub listed_size : Content → ℕ
 listed_size (leaf items) = 0
-listed_size (branch arms) = 0
+listed_size (branch pivots) = 0
 listed_size (chain next bytes) = 4 + length bytes
 listed_size (free_list next pages) = 4 + 4 * length pages
 
@@ -80,10 +80,10 @@ listed_size (free_list next pages) = 4 + 4 * length pages
 abbrev pub IsFit : Content → Type 0
 IsFit content = listed_size content ≤ 4080
 
-unfoldable pub page_bytes : Sheet → List ℕ
-page_bytes sheet =
-    header (kind_of sheet.content) (count_of sheet.content) sheet.page sheet.generation
-    ++ body_and_zeros (body_of sheet.content)
+unfoldable pub page_bytes : PageModel → List ℕ
+page_bytes model =
+    header (kind_of model.content) (count_of model.content) model.page model.generation
+    ++ body_and_zeros (body_of model.content)
 
 -- ---- reading cells
 
@@ -108,8 +108,8 @@ item_in bytes = record {
   place = place_in (little_number 4 (drop 2 bytes)) (drop (little_number 2 bytes) (drop 6 bytes));
 }
 
-abbrev pub arm_in : List ℕ → Arm
-arm_in bytes = record {
+abbrev pub pivot_in : List ℕ → Pivot
+pivot_in bytes = record {
   key = take (little_number 2 bytes) (drop 2 bytes);
   child = little_number 4 (drop (little_number 2 bytes) (drop 2 bytes));
 }
@@ -131,9 +131,9 @@ abbrev pub items_at : List ℕ → List ℕ → List Item
 items_at bytes places = map (λ at. item_in (drop at bytes)) places
 
 -- The first child has no key, and its page stands in front.
-abbrev pub arms_at : List ℕ → List ℕ → List Arm
-arms_at bytes places =
-    record { key = []; child = little_number 4 bytes } ∷ map (λ at. arm_in (drop at bytes)) places
+abbrev pub pivots_at : List ℕ → List ℕ → List Pivot
+pivots_at bytes places =
+    record { key = []; child = little_number 4 bytes } ∷ map (λ at. pivot_in (drop at bytes)) places
 
 abbrev pub numbers_in : ℕ → List ℕ → List ℕ
 numbers_in zero bytes = []
@@ -153,8 +153,8 @@ abbrev pub branch_in : ℕ → List ℕ → Result Content PageFault
 branch_in count body =
     unless (nat_lt count 2) faults.Length
     (places_in branch_cell_size (count - 1) 4 body >>= λ places.
-    unless (not (rise (arm_keys (arms_at body places)))) faults.Order
-    (Ok (branch (arms_at body places))))
+    unless (not (rise (pivot_keys (pivots_at body places)))) faults.Order
+    (Ok (branch (pivots_at body places))))
 
 -- A chain's page, by its count, its next page and the 4,076 bytes behind that. All pages of a chain
 -- but the last are full.
@@ -191,8 +191,8 @@ generation_in page generation bytes =
     faults.Number
     (Ok (little_number 8 (drop 8 bytes))))
 
-abbrev pub sheet_in : ℕ → ℕ → List ℕ → Result Sheet PageFault
-sheet_in number generation bytes = do
+abbrev pub model_in : ℕ → ℕ → List ℕ → Result PageModel PageFault
+model_in number generation bytes = do
   born ← generation_in number generation bytes
   inside ← content_in (slice_index bytes 0) (little_number 2 (drop 2 bytes)) (drop 16 bytes)
   Ok (record { page = number; generation = born; content = inside })

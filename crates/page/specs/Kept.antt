@@ -1,9 +1,9 @@
 -- What is true of the bytes and places that a page of the tree keeps.
 use Rattle.std.specs.Prelude.{◌≡◌, ℕ, ◌+◌, ◌≤◌, List, [], ◌∷◌, length, map, drop}
 use Rattle.std.specs.List.{AllByRecursion, flat_map}
-use Rattle.page.specs.Content.{IsLeaf, IsBranch, item_size, arm_size}
-use Rattle.page.specs.Format.{item_bytes, arms_bytes, body_and_zeros, leaf_cell_size}
-use Rattle.page.specs.Format.{branch_cell_size, arm_in, items_at, arms_at}
+use Rattle.page.specs.Content.{IsLeaf, IsBranch, item_size, pivot_size}
+use Rattle.page.specs.Format.{item_bytes, pivots_bytes, body_and_zeros, leaf_cell_size}
+use Rattle.page.specs.Format.{branch_cell_size, pivot_in, items_at, pivots_at}
 
 -- a cell of this size begins at the place, and ends in the bytes
 abbrev pub IsWhole : (List ℕ → ℕ) → List ℕ → ℕ → Type 0
@@ -24,6 +24,6 @@ pub record KeepsLeaf (bytes places : List ℕ) : Type 0 where
 pub record KeepsBranch (bytes places : List ℕ) : Type 0 where
   pub len : length bytes ≡ 4080
   pub whole : AllByRecursion (IsWhole branch_cell_size bytes) places
-  pub sound : IsBranch (arms_at bytes places)
-  pub spelled : bytes ≡ body_and_zeros (arms_bytes (arms_at bytes places))
-  pub placed : places ≡ starts arm_size 4 (map (λ at. arm_in (drop at bytes)) places)
+  pub sound : IsBranch (pivots_at bytes places)
+  pub spelled : bytes ≡ body_and_zeros (pivots_bytes (pivots_at bytes places))
+  pub placed : places ≡ starts pivot_size 4 (map (λ at. pivot_in (drop at bytes)) places)

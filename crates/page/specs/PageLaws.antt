@@ -1,18 +1,18 @@
 -- Laws of pages as bytes.
 use Rattle.std.specs.Prelude.{◌≡◌, ℕ, ◌^◌, ◌<◌, ◌≤◌, Ok}
 use Rattle.page.specs.Content.{IsContent}
-use Rattle.page.specs.Format.{Sheet, page_bytes, sheet_in}
+use Rattle.page.specs.Format.{PageModel, page_bytes, model_in}
 
 -- a page of a file whose root has this generation
-pub record IsSheet (generation : ℕ) (sheet : Sheet) : Type 0 where
-  pub page : sheet.page < 2 ^ 32
-  pub some : 1 ≤ sheet.generation
-  pub small : sheet.generation < 2 ^ 64
-  pub until : sheet.generation ≤ generation
-  pub content : IsContent sheet.content
+pub record IsPageModel (generation : ℕ) (model : PageModel) : Type 0 where
+  pub page : model.page < 2 ^ 32
+  pub some : 1 ≤ model.generation
+  pub small : model.generation < 2 ^ 64
+  pub until : model.generation ≤ generation
+  pub content : IsContent model.content
 
 -- What is written is read back.
 abbrev pub ReadsBack : Type 0
 ReadsBack =
-    (generation : ℕ) (sheet : Sheet) → IsSheet generation sheet
-    → sheet_in sheet.page generation (page_bytes sheet) ≡ Ok sheet
+    (generation : ℕ) (model : PageModel) → IsPageModel generation model
+    → model_in model.page generation (page_bytes model) ≡ Ok model

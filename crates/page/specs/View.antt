@@ -5,6 +5,6 @@ use Rattle.page.specs.declared.page_content.PageContent.TheVariants as contents
 
 abbrev pub content_of : PageContent → Content
 content_of (contents.Leaf items) = leaf items
-content_of (contents.Branch arms) = branch arms
+content_of (contents.Branch pivots) = branch pivots
 content_of (contents.Chain next bytes) = chain next bytes.items
 content_of (contents.FreeList next pages) = free_list next pages.items

@@ -2,10 +2,10 @@
 
 ghost use Rattle.std.specs.Prelude.{◌≡◌, ◌<◌, ◌≤◌, ◌+◌, ℕ, length, map, slice_get, take, Some, IfOk};
 ghost use Rattle.outcome.specs.Outcome.{Gives};
-ghost use Rattle.page.specs.Content.{Content, branch, IsBranch, Arm, arm_keys, arm_pages, arms_size};
+ghost use Rattle.page.specs.Content.{Content, branch, IsBranch, Pivot, pivot_keys, pivot_pages, pivots_size};
 ghost use Rattle.page.specs.ChildPage.{exchanged, page_place, with_child};
-ghost use Rattle.page.specs.Format.{branch_in, arms_bytes, body_and_zeros};
-ghost use Rattle.page.specs.CellView.{arm_of};
+ghost use Rattle.page.specs.Format.{branch_in, pivots_bytes, body_and_zeros};
+ghost use Rattle.page.specs.CellView.{pivot_of};
 
 use crate::cells::{CellForm, append_children, append_number, branch_child, keys_rise, places_of};
 use crate::splicing::{append_places, bytes_with_number};
@@ -24,13 +24,13 @@ pub struct Branch {
 
 impl Model for Branch {
     ghost use Rattle.std.specs.Prelude.{List};
-    ghost use Rattle.page.specs.Content.{Arm};
-    ghost use Rattle.page.specs.Format.{arms_at};
+    ghost use Rattle.page.specs.Content.{Pivot};
+    ghost use Rattle.page.specs.Format.{pivots_at};
     ghost use Rattle.page.specs.Kept.{KeepsBranch};
 
-    ghost Value = { List Arm };
+    ghost Value = { List Pivot };
 
-    ghost view = { λ a. arms_at a.bytes.items a.places.items };
+    ghost view = { λ a. pivots_at a.bytes.items a.places.items };
 
     ghost invariant = { λ a. KeepsBranch a.bytes.items a.places.items };
 }
@@ -39,8 +39,8 @@ impl Branch {
     /// A branch with these children: at least two, in ascending order of their keys, of which the first is empty, that
     /// find room in 4,080 bytes.
     pub fn of(alloc: Global, children: &[Child<'_>]) -> Result<Branch, AllocError>
-        requires { IsBranch (map arm_of children.now) }
-        ensures { IfOk result (λ made. made ≡ map arm_of children.now) }
+        requires { IsBranch (map pivot_of children.now) }
+        ensures { IfOk result (λ made. made ≡ map pivot_of children.now) }
     {
         let mut bytes = Vec::with_capacity(alloc, BODY_BYTES)?;
         let mut places = Vec::with_capacity(alloc, children.len() - 1)?;
@@ -78,7 +78,7 @@ impl Branch {
     /// A child, by its place among the children.
     pub fn child(&self, i: usize) -> Child<'_>
         requires { i < length self.now }
-        ensures { slice_get self.now i ≡ Some (arm_of result) }
+        ensures { slice_get self.now i ≡ Some (pivot_of result) }
     {
         if i == 0 {
             let page = LittleEndian::read_u32(&self.bytes);
@@ -90,7 +90,7 @@ impl Branch {
     /// The page of a child, by its place among the children.
     pub fn page(&self, i: usize) -> u32
         requires { i < length self.now }
-        ensures { slice_get (arm_pages self.now) i ≡ Some result }
+        ensures { slice_get (pivot_pages self.now) i ≡ Some result }
     {
         self.child(i).page
     }
@@ -98,7 +98,7 @@ impl Branch {
     /// The key of a child, by its place among the children; that of the first is empty.
     pub fn key(&self, i: usize) -> &[u8]
         requires { i < length self.now }
-        ensures { slice_get (arm_keys self.now) i ≡ Some result.now }
+        ensures { slice_get (pivot_keys self.now) i ≡ Some result.now }
     {
         self.child(i).key
     }
@@ -116,7 +116,7 @@ impl Branch {
 
     /// The bytes of all children: the first has its page alone.
     pub fn size(&self) -> usize
-        ensures { result ≡ arms_size self.now }
+        ensures { result ≡ pivots_size self.now }
     {
         self.number_place(self.places.len()) + 4
     }
@@ -135,7 +135,7 @@ impl Branch {
     pub fn start(&self, i: usize) -> usize
         requires some { 0 < i }
         requires within { i ≤ length self.now }
-        ensures { result ≡ arms_size (take i self.now) }
+        ensures { result ≡ pivots_size (take i self.now) }
     {
         if i <= self.places.len() {
             return self.places[i - 1] as usize;
@@ -155,9 +155,9 @@ impl Branch {
         requires some { 0 < from }
         requires order { from ≤ to }
         requires within { to ≤ length self.now }
-        requires sound { IsBranch (exchanged from to (map arm_of children.now) self.now) }
+        requires sound { IsBranch (exchanged from to (map pivot_of children.now) self.now) }
         ensures { IfOk result (λ made.
-            made ≡ exchanged from to (map arm_of children.now) self.now) }
+            made ≡ exchanged from to (map pivot_of children.now) self.now) }
     {
         let stop = self.start(to);
         let size = self.size();
@@ -174,7 +174,7 @@ impl Branch {
 
     /// What stands behind the page's header.
     pub(crate) fn bytes(&self) -> &[u8]
-        ensures { result.now ≡ body_and_zeros (arms_bytes self.now) }
+        ensures { result.now ≡ body_and_zeros (pivots_bytes self.now) }
     {
         &self.bytes
     }

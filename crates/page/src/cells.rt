@@ -4,10 +4,10 @@ ghost use Rattle.std.specs.Prelude.{◌≡◌, ◌≤◌, ◌<◌, ◌+◌, ◌^
 ghost use Rattle.std.specs.List.{AllByRecursion, flat_map};
 ghost use Rattle.outcome.specs.Outcome.{Gives, GivesExactly, unless};
 ghost use Rattle.byteorder.specs.Endian.{little_bytes};
-ghost use Rattle.page.specs.Content.{IsItem, IsArm, rise_above, item_size, arm_size, total};
-ghost use Rattle.page.specs.Format.{item_bytes, arm_bytes, value_length, stored_size, leaf_cell_size, branch_cell_size, place_in, item_in, arm_in, places_in};
+ghost use Rattle.page.specs.Content.{IsItem, IsPivot, rise_above, item_size, pivot_size, total};
+ghost use Rattle.page.specs.Format.{item_bytes, pivot_bytes, value_length, stored_size, leaf_cell_size, branch_cell_size, place_in, item_in, pivot_in, places_in};
 ghost use Rattle.page.specs.Kept.{IsWhole, starts};
-ghost use Rattle.page.specs.CellView.{place_of, item_of, arm_of, size_by, key_by};
+ghost use Rattle.page.specs.CellView.{place_of, item_of, pivot_of, size_by, key_by};
 
 use crate::{PageFault, is_all_zero};
 use byteorder::{ByteOrder, LittleEndian};
@@ -81,7 +81,7 @@ fn stored_at(len: u32, bytes: &[u8]) -> Stored<'_>
 /// The child at the front of a branch's bytes.
 pub(crate) fn branch_child(bytes: &[u8]) -> Child<'_>
     requires { branch_cell_size bytes.now ≤ length bytes.now }
-    ensures { arm_of result ≡ arm_in bytes.now }
+    ensures { pivot_of result ≡ pivot_in bytes.now }
 {
     let key_len = LittleEndian::read_u16(bytes) as usize;
     let (key, behind) = bytes[2..].split_at(key_len);
@@ -144,8 +144,8 @@ pub(crate) fn append_number(bytes: &mut Vec<u8>, number: u32) -> Result<(), Allo
 impl Child<'_> {
     /// Appends the bytes of a child behind the first.
     pub(crate) fn append_to(&self, bytes: &mut Vec<u8>) -> Result<(), AllocError>
-        requires { IsArm (arm_of self.now) }
-        ensures { OnOk result (bytes.new.items ≡ bytes.old.items ++ arm_bytes (arm_of self.now)) }
+        requires { IsPivot (pivot_of self.now) }
+        ensures { OnOk result (bytes.new.items ≡ bytes.old.items ++ pivot_bytes (pivot_of self.now)) }
     {
         let mut len = [0; 2];
         LittleEndian::write_u16(&mut len, self.key.len() as u16);
@@ -213,12 +213,12 @@ pub(crate) fn append_children(
     bytes: &mut Vec<u8>,
     places: &mut Vec<u16>,
 ) -> Result<(), AllocError>
-    requires each { AllByRecursion IsArm (map arm_of children.now) }
-    requires room { length bytes.old.items + total arm_size (map arm_of children.now) ≤ 4080 }
+    requires each { AllByRecursion IsPivot (map pivot_of children.now) }
+    requires room { length bytes.old.items + total pivot_size (map pivot_of children.now) ≤ 4080 }
     ensures bytes { OnOk result
-        (bytes.new.items ≡ bytes.old.items ++ flat_map arm_bytes (map arm_of children.now)) }
+        (bytes.new.items ≡ bytes.old.items ++ flat_map pivot_bytes (map pivot_of children.now)) }
     ensures places { OnOk result (places.new.items
-        ≡ places.old.items ++ starts arm_size (length bytes.old.items) (map arm_of children.now)) }
+        ≡ places.old.items ++ starts pivot_size (length bytes.old.items) (map pivot_of children.now)) }
 {
     for child in children {
         note_place(places, bytes.len())?;

@@ -2,7 +2,7 @@
 
 ghost use Rattle.std.specs.Prelude.{◌≡◌, ◌≢◌, ◌⊎◌, ℕ, Some, None, IfOk, IfSome};
 ghost use Rattle.page.specs.Cache.{kept};
-ghost use Rattle.page.specs.ImageView.{sheet_of};
+ghost use Rattle.page.specs.ImageView.{model_of};
 
 use crate::PageImage;
 use lru::LruCache;
@@ -21,31 +21,31 @@ pub struct SharedPage {
 }
 
 impl Model for SharedPage {
-    ghost use Rattle.page.specs.Format.{Sheet};
-    ghost use Rattle.page.specs.ImageView.{sheet_of};
+    ghost use Rattle.page.specs.Format.{PageModel};
+    ghost use Rattle.page.specs.ImageView.{model_of};
 
-    ghost Value = { Sheet };
+    ghost Value = { PageModel };
 
-    ghost view = { λ a. sheet_of a.image.value };
+    ghost view = { λ a. model_of a.image.value };
 }
 
 impl SharedPage {
     /// The page, with one owner.
     pub fn new(alloc: Global, image: PageImage) -> Result<SharedPage, AllocError>
-        ensures { IfOk result (λ shared. shared ≡ sheet_of image) }
+        ensures { IfOk result (λ shared. shared ≡ model_of image) }
     {
         let image = Rc::new(alloc, image)?;
         Ok(SharedPage { image })
     }
 
     pub fn image(&self) -> &PageImage
-        ensures { sheet_of result.now ≡ self.now }
+        ensures { model_of result.now ≡ self.now }
     {
         self.image.as_ref()
     }
 
     /// One more owner.
-    pub fn share(&self) -> Result<SharedPage, AllocError>
+    pub fn clone_ref(&self) -> Result<SharedPage, AllocError>
         ensures { IfOk result (λ shared. shared ≡ self.now) }
     {
         let image = self.image.clone()?;
@@ -76,7 +76,7 @@ impl PageCache {
         ensures same { (k : ℕ) → kept self.new k ≡ kept self.old k }
     {
         let found = self.pages.get(&page)?;
-        found.share().ok()
+        found.clone_ref().ok()
     }
 
     /// Keeps a page in place of the one that was kept under its number, which another one may have to leave for. Without

@@ -3,7 +3,7 @@
 ghost use Rattle.std.specs.Prelude.{IsTrue, ◌≡◌, ◌≢◌, ◌≤◌, ◌<◌, ◌*◌, ◌^◌, ◌++◌, length, IfOk, vec_len};
 ghost use Rattle.byteorder.specs.Endian.{little_bytes};
 ghost use Rattle.page.specs.Content.{IsContent, chain, free_list, is_of_tree};
-ghost use Rattle.page.specs.Format.{header, IsFit, page_bytes, chain_in, free_list_in, numbers_in, generation_in, content_in, sheet_in};
+ghost use Rattle.page.specs.Format.{header, IsFit, page_bytes, chain_in, free_list_in, numbers_in, generation_in, content_in, model_in};
 ghost use Rattle.page.specs.View.{content_of};
 ghost use Rattle.outcome.specs.Outcome.{Gives};
 
@@ -224,7 +224,7 @@ pub fn free_list_page(generation: u64, page: u32, next: u32, numbers: &[u32]) ->
 }
 
 impl PageImage {
-    ghost use Rattle.page.specs.ImageView.{sheet_of};
+    ghost use Rattle.page.specs.ImageView.{model_of};
 
     /// Whether a tree may have this page, which is read back once it is written: one of a chain that names the next page has
     /// to be full.
@@ -242,7 +242,7 @@ impl PageImage {
 
     /// Writes the page's bytes. It takes no memory.
     pub fn write(&self, bytes: &mut [u8; 4096])
-        ensures { bytes.new ≡ page_bytes (sheet_of self.now) }
+        ensures { bytes.new ≡ page_bytes (model_of self.now) }
     {
         let (page, generation) = (self.page, self.generation);
         match &self.content {
@@ -269,7 +269,7 @@ impl PageImage {
         page: u32,
         generation: u64,
     ) -> Result<PageImage, PageFault>
-        ensures { Gives PageFault.Memory sheet_of result (sheet_in page generation bytes.now) }
+        ensures { Gives PageFault.Memory model_of result (model_in page generation bytes.now) }
     {
         let generation = read_generation(bytes, page, generation)?;
         let count = LittleEndian::read_u16(&bytes[2..]) as usize;

@@ -2,14 +2,14 @@
 ghost use Rattle.std.specs.Prelude.{◌≡◌, ℕ, ◌<◌, OnOk, OnErr};
 ghost use Rattle.page.specs.History.{KeepsWord, now, reads};
 ghost use Rattle.page.specs.Calls.{MakesCalls};
-ghost use Rattle.page.specs.Crash.{GoesOn, LeavesOnly, IsImageOutside, ReadsOnly};
+ghost use Rattle.page.specs.Crash.{ExtendsHistory, LeavesOnly, IsImageOutside, ReadsOnly};
 ghost use Rattle.page.specs.Page.{IsSectorOf, page_at};
 
 use crate::{DeviceFault, Disk};
 
 /// Writes a page's eight sectors.
 pub fn write_page<D: Disk>(disk: &mut D, page: u32, bytes: &[u8; 4096]) -> Result<(), DeviceFault>
-    ensures on { GoesOn (D.history disk.old) (D.history disk.new) }
+    ensures extends { ExtendsHistory (D.history disk.old) (D.history disk.new) }
 
     // Eight writes, and no other call.
     ensures calls { MakesCalls 8 result (D.history disk.old) (D.history disk.new) }

@@ -7,10 +7,10 @@ use Rattle.std.proofs.lemmas.Bool.{cases_lt}
 use Rattle.std.proofs.lemmas.Bool.Decides.{nat_tests}
 use Rattle.page.specs.Cache.{kept}
 use Rattle.page.specs.Content.{IsContent}
-use Rattle.page.specs.Format.{Sheet, sheet_in}
+use Rattle.page.specs.Format.{PageModel, model_in}
 use Rattle.page.specs.History.{History, KeepsWord, now, reads}
 use Rattle.page.specs.Page.{IsSectorOf, page_at}
-use Rattle.page.specs.PageLaws.{IsSheet}
+use Rattle.page.specs.PageLaws.{IsPageModel}
 use Rattle.page.specs.declared.page_cache.PageCache.{PageCache}
 use Rattle.page.specs.declared.page_fault.PageFault.TheVariants as page_faults
 use Rattle.btree.specs.Keys.{times}
@@ -24,13 +24,13 @@ use Rattle.roots.specs.declared.store.CommitFault.{CommitFault}
 use Rattle.roots.specs.declared.store.CommitFault.TheVariants as faults
 use Rattle.roots.specs.declared.store.Store.{Store}
 use Rattle.roots.specs.Commit.{CommitsRoot, LeavesPages}
-use Rattle.roots.specs.Image.{IsOnPages, list_in, sheet_at}
-use Rattle.roots.specs.Listed.{list_sheets}
+use Rattle.roots.specs.Image.{IsOnPages, list_in, model_at}
+use Rattle.roots.specs.Listed.{list_models}
 use Rattle.roots.specs.Store.{disk_history, durable_root}
 use Rattle.roots.specs.Turn.{LieBehind, end_behind, made_or, next_root, numbers_of}
-use Rattle.roots.proofs.ImageLemmas.{sheet_same}
+use Rattle.roots.proofs.ImageLemmas.{model_same}
 use Rattle.roots.proofs.KeptPages.{made_there, still_read}
-use Rattle.roots.proofs.MadeLemmas.{inside_end, sheets_after}
+use Rattle.roots.proofs.MadeLemmas.{inside_end, models_after}
 use Rattle.pager.specs.Kept.{Agrees, AreListed, IsKept, IsNew}
 use Rattle.pager.specs.Planning.{next_generation, pages_with}
 use Rattle.pager.specs.Writing.{Forgets, KeepsAll}
@@ -40,33 +40,33 @@ use Rattle.pager.proofs.ListedLemmas.{holds_listed}
 use Rattle.pager.proofs.MemberLemmas.{all_among, member}
 use Rattle.pager.proofs.MergeLemmas.{all_parts}
 use Rattle.pager.proofs.OrderLemmas.{order_none}
-use Rattle.pager.proofs.PlanLemmas.{all, all_lie, all_new, all_sheets, booked_after, count_is, planned, tree, wide_after}
+use Rattle.pager.proofs.PlanLemmas.{all, all_lie, all_new, all_models, booked_after, count_is, planned, tree, wide_after}
 use Rattle.pager.proofs.ReadLemmas.{IsListIn}
 
 -- a page that is there has a number above 0
-some_number : (image : ℕ → List ℕ) (root : Root) (n : ℕ) (sheet : Sheet) → sheet_at image root n ≡ Ok sheet → 0 < n
-some_number image root n sheet is = by_test (nat_lt 0 n) refl is
+some_number : (image : ℕ → List ℕ) (root : Root) (n : ℕ) (model : PageModel) → model_at image root n ≡ Ok model → 0 < n
+some_number image root n model is = by_test (nat_lt 0 n) refl is
   where
     by_test : (some : Bool) → nat_lt 0 n ≡ some
-        → (if some && nat_lt n root.pages then sheet_in n root.generation (page_at image n) else Err page_faults.Number) ≡ Ok sheet → 0 < n
+        → (if some && nat_lt n root.pages then model_in n root.generation (page_at image n) else Err page_faults.Number) ≡ Ok model → 0 < n
     by_test true test is = grind (arith, nat_tests, test)
     by_test false test is = absurd cc
 
-module _ {D : Type 0} (history : D → History) (store : Store D) (cache : PageCache) (cached : Agrees history store cache) (all : List Sheet)
+module _ {D : Type 0} (history : D → History) (store : Store D) (cache : PageCache) (cached : Agrees history store cache) (all : List PageModel)
     (lie : LieBehind 0 all) (new_all : AllByRecursion (IsNew (durable_root store).generation cache) all) where
   -- what is written wasn't in the cache
-  none_written : (n : ℕ) (found : Sheet) → kept cache n ≡ Some found → AllByRecursion (λ (m : Sheet). m.page ≢ n) all
+  none_written : (n : ℕ) (found : PageModel) → kept cache n ≡ Some found → AllByRecursion (λ (m : PageModel). m.page ≢ n) all
   none_written n found is = elim (member all n) [
     | inl none ↦ none
     | inr r ↦
-        let one = all_among (IsNew (durable_root store).generation cache) all r.sheet new_all r.among in
+        let one = all_among (IsNew (durable_root store).generation cache) all r.model new_all r.among in
         let never : Some found ≡ None = sym is ∙ ap (kept cache) (sym r.is) ∙ one.uncached in absurd cc
   ]
 
   module _ (new : Store D) (after : PageCache) (tree free_list free_count : ℕ)
       (leaves : LeavesPages history all tree free_list free_count (Ok tt) store new)
-      (sheets : AllByRecursion (IsSheet ((durable_root store).generation + 1)) all) (keeps : KeepsAll all cache after)
-      (on : KeepsWord (disk_history history new) → KeepsWord (disk_history history store)) where
+      (models : AllByRecursion (IsPageModel ((durable_root store).generation + 1)) all) (keeps : KeepsAll all cache after)
+      (extends : KeepsWord (disk_history history new) → KeepsWord (disk_history history store)) where
     abbrev pub next : Root
     next = next_root (durable_root store) all tree free_list free_count
 
@@ -93,64 +93,64 @@ module _ {D : Type 0} (history : D → History) (store : Store D) (cache : PageC
       | inr le ↦ leaves.others k n le off ∙ sym (joined_high n le)
     ]
 
-    joined_sheet : (root : Root) (n : ℕ) → 0 < n → sheet_at joined root n ≡ sheet_at before root n
-    joined_sheet root n some = sheet_same before joined root n (λ k here. joined_high k (omega (arith, some, here.0)))
+    joined_model : (root : Root) (n : ℕ) → 0 < n → model_at joined root n ≡ model_at before root n
+    joined_model root n some = model_same before joined root n (λ k here. joined_high k (omega (arith, some, here.0)))
 
-    inside_next : AllByRecursion (λ (m : Sheet). m.page < next.pages) all
+    inside_next : AllByRecursion (λ (m : PageModel). m.page < next.pages) all
     inside_next =
-        all_weaker (λ (m : Sheet). m.page < end_behind 1 all) (λ (m : Sheet). m.page < next.pages) (λ m less. omega (arith, less)) all
+        all_weaker (λ (m : PageModel). m.page < end_behind 1 all) (λ (m : PageModel). m.page < next.pages) (λ m less. omega (arith, less)) all
         (inside_end all 0 1 lie)
 
-    now_read : KeepsWord (disk_history history new) → (n : ℕ) → 0 < n → sheet_at behind next n ≡ made_or all n (sheet_at before next n)
+    now_read : KeepsWord (disk_history history new) → (n : ℕ) → 0 < n → model_at behind next n ≡ made_or all n (model_at before next n)
     now_read k n some =
-        sheets_after joined behind next all lie inside_next sheets (leaves.written k lie) (joined_off k) n
-        ∙ ap (made_or all n) (joined_sheet next n some)
+        models_after joined behind next all lie inside_next models (leaves.written k lie) (joined_off k) n
+        ∙ ap (made_or all n) (joined_model next n some)
 
     pub next_is : durable_root new ≡ next
-    next_is = leaves.root (all_weaker (IsNew (durable_root store).generation cache) (λ (m : Sheet). m.page < 1048576) (λ m one. one.inside) all new_all)
+    next_is = leaves.root (all_weaker (IsNew (durable_root store).generation cache) (λ (m : PageModel). m.page < 1048576) (λ m one. one.inside) all new_all)
 
-    above : (last : ℕ) (ms : List Sheet) → LieBehind last ms → AllByRecursion (λ (m : Sheet). 0 < m.page) ms
+    above : (last : ℕ) (ms : List PageModel) → LieBehind last ms → AllByRecursion (λ (m : PageModel). 0 < m.page) ms
     above last [] lies = tt
     above last (m ∷ ms) lies = (omega (arith, lies.0), above m.page ms lies.1)
 
     -- each page that was all is read then
-    pub each_there : KeepsWord (disk_history history new) → AllByRecursion (λ (m : Sheet). sheet_at behind next m.page ≡ Ok m) all
+    pub each_there : KeepsWord (disk_history history new) → AllByRecursion (λ (m : PageModel). model_at behind next m.page ≡ Ok m) all
     each_there k =
-        all_both (λ (m : Sheet). made_or all m.page (sheet_at before next m.page) ≡ Ok m) (λ (m : Sheet). 0 < m.page)
-        (λ (m : Sheet). sheet_at behind next m.page ≡ Ok m) (λ m there some. now_read k m.page some ∙ there) all
-        (made_there (λ m. sheet_at before next m) 0 all lie) (above 0 all lie)
+        all_both (λ (m : PageModel). made_or all m.page (model_at before next m.page) ≡ Ok m) (λ (m : PageModel). 0 < m.page)
+        (λ (m : PageModel). model_at behind next m.page ≡ Ok m) (λ m there some. now_read k m.page some ∙ there) all
+        (made_there (λ m. model_at before next m) 0 all lie) (above 0 all lie)
 
     -- and so is each that was there and isn't written
-    pub still_there : KeepsWord (disk_history history new) → (n : ℕ) (found : Sheet) → sheet_at before (durable_root store) n ≡ Ok found
-        → AllByRecursion (λ (m : Sheet). m.page ≢ n) all → sheet_at behind next n ≡ Ok found
+    pub still_there : KeepsWord (disk_history history new) → (n : ℕ) (found : PageModel) → model_at before (durable_root store) n ≡ Ok found
+        → AllByRecursion (λ (m : PageModel). m.page ≢ n) all → model_at behind next n ≡ Ok found
     still_there k n found there none =
-        now_read k n (some_number before (durable_root store) n found there) ∙ made_none all n (sheet_at before next n) none
+        now_read k n (some_number before (durable_root store) n found there) ∙ made_none all n (model_at before next n) none
         ∙ still_read before (durable_root store) next n found (omega arith) (omega arith) there
 
-    agrees_next : KeepsWord (disk_history history new) → (n : ℕ) (found : Sheet) → kept after n ≡ Some found → sheet_at behind next n ≡ Ok found
+    agrees_next : KeepsWord (disk_history history new) → (n : ℕ) (found : PageModel) → kept after n ≡ Some found → model_at behind next n ≡ Ok found
     agrees_next k n found is = elim (keeps n found is) [
-      | inl earlier ↦ still_there k n found (cached (on k) n found earlier) (none_written n found earlier)
+      | inl earlier ↦ still_there k n found (cached (extends k) n found earlier) (none_written n found earlier)
       | inr (at, among) ↦
-          subst (λ (m : ℕ). sheet_at behind next m ≡ Ok found) at
-          (all_among (λ (m : Sheet). sheet_at behind next m.page ≡ Ok m) all found (each_there k) among)
+          subst (λ (m : ℕ). model_at behind next m ≡ Ok found) at
+          (all_among (λ (m : PageModel). model_at behind next m.page ≡ Ok m) all found (each_there k) among)
     ]
 
     pub agrees_after : Agrees history new after
-    agrees_after k n found is = ap (λ (r : Root). sheet_at behind r n) next_is ∙ agrees_next k n found is
+    agrees_after k n found is = ap (λ (r : Root). model_at behind r n) next_is ∙ agrees_next k n found is
 
   -- a commit that failed: what it didn't write is there still
   pub still_failed : (new : Store D) (tree free_list free_count : ℕ) (fault : CommitFault)
-      → LeavesPages history all tree free_list free_count (Err fault) store new → KeepsWord (disk_history history new) → (n : ℕ) (found : Sheet)
-      → sheet_at (reads (now (disk_history history store))) (durable_root store) n ≡ Ok found → AllByRecursion (λ (m : Sheet). m.page ≢ n) all
-      → sheet_at (reads (now (disk_history history new))) (durable_root new) n ≡ Ok found
+      → LeavesPages history all tree free_list free_count (Err fault) store new → KeepsWord (disk_history history new) → (n : ℕ) (found : PageModel)
+      → model_at (reads (now (disk_history history store))) (durable_root store) n ≡ Ok found → AllByRecursion (λ (m : PageModel). m.page ≢ n) all
+      → model_at (reads (now (disk_history history new))) (durable_root new) n ≡ Ok found
   still_failed new tree free_list free_count fault leaves k n found there none =
       let some : 0 < n = some_number (reads (now (disk_history history store))) (durable_root store) n found there in
-      ap (λ (r : Root). sheet_at (reads (now (disk_history history new))) r n) leaves.still
-      ∙ sheet_same (reads (now (disk_history history store))) (reads (now (disk_history history new))) (durable_root store) n
+      ap (λ (r : Root). model_at (reads (now (disk_history history new))) r n) leaves.still
+      ∙ model_same (reads (now (disk_history history store))) (reads (now (disk_history history new))) (durable_root store) n
       (λ j here. leaves.others k j (omega (arith, some, here.0)) (off_written n j here all none))
       ∙ there
     where
-      off_written : (n j : ℕ) → IsSectorOf n j → (ms : List Sheet) → AllByRecursion (λ (m : Sheet). m.page ≢ n) ms → IsOnPages (numbers_of ms) j → ⊥
+      off_written : (n j : ℕ) → IsSectorOf n j → (ms : List PageModel) → AllByRecursion (λ (m : PageModel). m.page ≢ n) ms → IsOnPages (numbers_of ms) j → ⊥
       off_written n j here [] ne on_it = on_it
       off_written n j here (m ∷ ms) ne (inl there) = ne.0 (omega (arith, here.0, here.1, there.0, there.1))
       off_written n j here (m ∷ ms) ne (inr later) = off_written n j here ms ne.1 later
@@ -159,13 +159,14 @@ module _ {D : Type 0} (history : D → History) (store : Store D) (cache : PageC
   pub agrees_failed : (new : Store D) (tree free_list free_count : ℕ) (fault : CommitFault)
       → LeavesPages history all tree free_list free_count (Err fault) store new
       → (KeepsWord (disk_history history new) → KeepsWord (disk_history history store)) → Agrees history new cache
-  agrees_failed new tree free_list free_count fault leaves on k n found is =
-      still_failed new tree free_list free_count fault leaves k n found (cached (on k) n found is) (none_written n found is)
+  agrees_failed new tree free_list free_count fault leaves extends k n found is =
+      still_failed new tree free_list free_count fault leaves k n found (cached (extends k) n found is) (none_written n found is)
 
 -- ---- what every pager keeps
 
 -- where the list's pages went out of the cache
-pub kept_forgotten : {D : Type 0} {listed places : List ℕ} (history : D → History) (store : Store D) (cache after : PageCache) (made : List Sheet) (book : Book)
+pub kept_forgotten : {D : Type 0} {listed places : List ℕ} (history : D → History) (store : Store D) (cache after : PageCache) (made : List PageModel)
+    (book : Book)
     (pages : List ℕ) → IsKept history store cache made book listed places → Forgets pages cache after → IsKept history store after made book listed places
 kept_forgotten history store cache after made book pages so forgets = record {
   cached = λ k n found is. so.cached k n found (forgets n found is).0;
@@ -186,15 +187,15 @@ kept_forgotten history store cache after made book pages so forgets = record {
 pub gone_then : (pages : List ℕ) (cache after : PageCache) → Forgets pages cache after → (n : ℕ) → 1 ≤ times n pages → kept after n ≡ None
 gone_then pages cache after forgets n some = by_case (kept after n) (λ found is. omega (arith, some, (forgets n found is).1))
   where
-    by_case : (found : Option Sheet) → ((sheet : Sheet) → found ≡ Some sheet → ⊥) → found ≡ None
+    by_case : (found : Option PageModel) → ((model : PageModel) → found ≡ Some model → ⊥) → found ≡ None
     by_case None never = refl
-    by_case (Some sheet) never = absurd (never sheet refl)
+    by_case (Some model) never = absurd (never model refl)
 
-module _ {D : Type 0} {listed places : List ℕ} (history : D → History) (store : Store D) (cache : PageCache) (made : List Sheet) (retired : List ℕ)
+module _ {D : Type 0} {listed places : List ℕ} (history : D → History) (store : Store D) (cache : PageCache) (made : List PageModel) (retired : List ℕ)
     (book : Book) (so : IsKept history store cache made book listed places) (pages named : List ℕ) (final : Book)
     (list : IsMade (pages_with (durable_root store) (tree history store cache made retired book so)) pages named
     (planned history store cache made retired book so) final) (gone : (n : ℕ) → 1 ≤ times n pages → kept cache n ≡ None) where
-  abbrev written_all : List Sheet
+  abbrev written_all : List PageModel
   written_all = all history store cache made retired book so pages named final list
 
   lies : LieBehind 0 written_all
@@ -205,17 +206,19 @@ module _ {D : Type 0} {listed places : List ℕ} (history : D → History) (stor
 
   module _ (new : Store D) (after : PageCache) (root : ℕ)
       (leaves : LeavesPages history written_all root (first_page (written pages named)) (length named) (Ok tt) store new)
-      (content : AllByRecursion (λ (m : Sheet). IsContent m.content) (tree history store cache made retired book so)) (keeps : KeepsAll written_all cache after)
-      (on : KeepsWord (disk_history history new) → KeepsWord (disk_history history store)) where
+      (content : AllByRecursion (λ (m : PageModel). IsContent m.content) (tree history store cache made retired book so))
+      (keeps : KeepsAll written_all cache after)
+      (extends : KeepsWord (disk_history history new) → KeepsWord (disk_history history store)) where
     abbrev next_root_is : Root
     next_root_is = next_root (durable_root store) written_all root (first_page (written pages named)) (length named)
 
-    sheets_so : AllByRecursion (IsSheet ((durable_root store).generation + 1)) written_all
-    sheets_so = all_sheets history store cache made retired book so pages named final list content
+    models_so : AllByRecursion (IsPageModel ((durable_root store).generation + 1)) written_all
+    models_so = all_models history store cache made retired book so pages named final list content
 
     pub root_is : durable_root new ≡ next_root_is
     root_is =
-        next_is history store cache so.cached written_all lies news new after root (first_page (written pages named)) (length named) leaves sheets_so keeps on
+        next_is history store cache so.cached written_all lies news new after root (first_page (written pages named)) (length named) leaves models_so keeps
+        extends
 
     -- the list is there
     pub list_now : KeepsWord (disk_history history new) → IsListIn (written pages named) (now (disk_history history new)) (durable_root new)
@@ -223,27 +226,27 @@ module _ {D : Type 0} {listed places : List ℕ} (history : D → History) (stor
         let behind = reads (now (disk_history history new)) in
         let root_then = durable_root store in
         let those = tree history store cache made retired book so in
-        let holds = holds_listed (sheet_at behind next_root_is) (next_generation root_then) pages named
-        (all_parts (λ (m : Sheet). sheet_at behind next_root_is m.page ≡ Ok m) those (list_sheets (next_generation root_then) (written pages named))
-        (each_there history store cache so.cached written_all lies news new after root (first_page (written pages named)) (length named) leaves sheets_so keeps
-        on k)).1 in
+        let holds = holds_listed (model_at behind next_root_is) (next_generation root_then) pages named
+        (all_parts (λ (m : PageModel). model_at behind next_root_is m.page ≡ Ok m) those (list_models (next_generation root_then) (written pages named))
+        (each_there history store cache so.cached written_all lies news new after root (first_page (written pages named)) (length named) leaves models_so keeps
+        extends k)).1 in
         subst (IsListIn (written pages named) (now (disk_history history new))) (sym root_is)
-        (subst (λ (n : ℕ). IsFreeList (list_in (sheet_at behind next_root_is)) n (first_page (written pages named)) (length named) (written pages named))
+        (subst (λ (n : ℕ). IsFreeList (list_in (model_at behind next_root_is)) n (first_page (written pages named)) (length named) (written pages named))
         (sym (count_is history store cache made retired book so pages named final list))
         (list_there (pages_with root_then those) pages named (planned history store cache made retired book so) final list
-        (list_in (sheet_at behind next_root_is))
+        (list_in (model_at behind next_root_is))
         holds))
 
     pub kept_after : (last : ℕ) → IsKept history new after [] (committed last final) pages []
     kept_after last = record {
       cached = agrees_after history store cache so.cached written_all lies news new after root (first_page (written pages named)) (length named) leaves
-          sheets_so keeps on;
+          models_so keeps extends;
       order = order_none;
       each = tt;
       booked = booked_after history store cache made retired book so pages named final list last;
       listed = λ running k parts other.
           let r = durable_root new in
-          let contents = list_in (sheet_at (reads (now (disk_history history new))) r) in
+          let contents = list_in (model_at (reads (now (disk_history history new))) r) in
           sym (written_pages pages named) ∙ ap pages_of
           (reading_is_exact contents r.pages r.free_list r.free_count r.free_count (written pages named) parts (list_now k) other);
       wide = subst (λ (r : Root). max r.pages 1 ≤ length (committed last final).states) (sym root_is)
@@ -259,7 +262,7 @@ module _ {D : Type 0} {listed places : List ℕ} (history : D → History) (stor
   pub kept_failed : (new : Store D) (root free_list free_count : ℕ) (fault : CommitFault) → CommitsRoot history root (Err fault) store new
       → LeavesPages history written_all root free_list free_count (Err fault) store new → IsKept history new cache made book listed places
   kept_failed new root free_list free_count fault commits leaves = record {
-    cached = agrees_failed history store cache so.cached written_all lies news new root free_list free_count fault leaves commits.on.kept;
+    cached = agrees_failed history store cache so.cached written_all lies news new root free_list free_count fault leaves commits.extends.kept;
     order = so.order;
     each = subst (λ (r : Root). AllByRecursion (IsNew r.generation cache) made) (sym leaves.still) so.each;
     booked = so.booked;

@@ -7,7 +7,7 @@ use Rattle.std.proofs.lemmas.Bool.{cases_eq, cases_lt}
 use Rattle.std.proofs.lemmas.Bool.Decides.{nat_tests}
 use Rattle.std.proofs.lemmas.List.{get_or-set_other, get_or-set_same, get_or_past, map-append, reverse-append, take-append-drop}
 use Rattle.page.specs.Content.{Content}
-use Rattle.page.specs.Format.{Sheet}
+use Rattle.page.specs.Format.{PageModel}
 use Rattle.page.specs.History.{History, KeepsWord, now, reads}
 use Rattle.page.specs.declared.page_fault.PageFault.{PageFault}
 use Rattle.page.proofs.Moments.{reads_nothing}
@@ -23,7 +23,7 @@ use Rattle.freelist.specs.declared.states.PageState.TheVariants as states
 use Rattle.freelist.specs.declared.turns.Change.{Change}
 use Rattle.freelist.proofs.Rewinding.{below}
 use Rattle.freelist.proofs.SoundBooks.{stays_sound}
-use Rattle.roots.specs.Image.{content_in, sheet_at}
+use Rattle.roots.specs.Image.{content_in, model_at}
 use Rattle.roots.specs.Store.{durable_root}
 use Rattle.roots.specs.Turn.{made_or, numbers_of}
 use Rattle.pager.specs.Commit.{IsTurn}
@@ -31,7 +31,7 @@ use Rattle.pager.specs.Kept.{IsBookFor, takes_of}
 use Rattle.pager.specs.Pinning.{IsPinned, KeepsVersion, TurnGoesOn}
 use Rattle.pager.specs.State.{State}
 use Rattle.pager.specs.Turn.{IsBegun, undone_to}
-use Rattle.pager.specs.View.{pager_history, sheets_of, store_of}
+use Rattle.pager.specs.View.{pager_history, models_of, store_of}
 use Rattle.pager.specs.declared.version.Version.{Version}
 use Rattle.pager.proofs.BookLemmas.{LeavesUse, booked_leaves, flag_most, flag_some, no_time, others_of, taken_use}
 use Rattle.pager.proofs.CapacityLemmas.{each_there, has_times}
@@ -46,22 +46,22 @@ use Rattle.pager.proofs.UndoLemmas.{drop_takes, length_takes}
 
 -- ---- takes that are undone
 
-times_none : (made : List Sheet) (n : ℕ) → AllByRecursion (λ (m : Sheet). m.page ≢ n) made → times n (numbers_of made) ≡ 0
+times_none : (made : List PageModel) (n : ℕ) → AllByRecursion (λ (m : PageModel). m.page ≢ n) made → times n (numbers_of made) ≡ 0
 times_none [] n none = refl
 times_none (m ∷ ms) n none = omega (arith, no_time n m.page (numbers_of ms) (λ is. none.0 (sym is)), times_none ms n none.1)
 
-can_drop : (n : ℕ) (made : List Sheet) (pages : List PageState) → CanRewind (takes_of made) pages → CanRewind (takes_of (drop n made)) pages
+can_drop : (n : ℕ) (made : List PageModel) (pages : List PageState) → CanRewind (takes_of made) pages → CanRewind (takes_of (drop n made)) pages
 can_drop zero made pages can = can
 can_drop (suc n) [] pages can = can
 can_drop (suc n) (m ∷ ms) pages can = can_drop n ms pages can.1
 
-rewound_other : (made : List Sheet) (pages : List PageState) (n : ℕ) → AllByRecursion (λ (m : Sheet). m.page ≢ n) made
+rewound_other : (made : List PageModel) (pages : List PageState) (n : ℕ) → AllByRecursion (λ (m : PageModel). m.page ≢ n) made
     → get_or (rewind (takes_of made) pages) n states.Retired ≡ get_or pages n states.Retired
 rewound_other [] pages n none = refl
 rewound_other (m ∷ ms) pages n none =
     get_or-set_other (rewind (takes_of ms) pages) m.page n states.Free states.Retired (λ is. none.0 (sym is)) ∙ rewound_other ms pages n none.1
 
-rewound_free : (made : List Sheet) (pages : List PageState) → CanRewind (takes_of made) pages → (n : ℕ) → 1 ≤ times n (numbers_of made)
+rewound_free : (made : List PageModel) (pages : List PageState) → CanRewind (takes_of made) pages → (n : ℕ) → 1 ≤ times n (numbers_of made)
     → get_or (rewind (takes_of made) pages) n states.Retired ≡ states.Free
 rewound_free [] pages can n some = absurd (omega (arith, some))
 rewound_free (m ∷ ms) pages can n some =
@@ -81,15 +81,16 @@ and_false false = refl
 
 -- ---- a pager grows from what undoing leads back to
 
-module _ {D : Type 0} (history : D → History) (p : State D) (booked : IsBookFor p.made p.book) (positive : AllByRecursion (λ (m : Sheet). 0 < m.page) p.made)
+module _ {D : Type 0} (history : D → History) (p : State D) (booked : IsBookFor p.made p.book)
+    (positive : AllByRecursion (λ (m : PageModel). 0 < m.page) p.made)
     (some few : ℕ) where
   abbrev q : State D
   q = undone_to some few p
 
-  abbrev first : List Sheet
+  abbrev first : List PageModel
   first = take some p.made
 
-  abbrev later : List Sheet
+  abbrev later : List PageModel
   later = drop some p.made
 
   states_are : q.book.states ≡ rewind (takes_of later) p.book.states
@@ -102,38 +103,39 @@ module _ {D : Type 0} (history : D → History) (p : State D) (booked : IsBookFo
   can = subst (λ (turn : List Change). CanRewind turn p.book.states) booked.turn booked.sound.undoable
 
   numbers : numbers_of p.made ≡ numbers_of first ++ numbers_of later
-  numbers = ap numbers_of (sym joined) ∙ map-append (λ (m : Sheet). m.page) first later
+  numbers = ap numbers_of (sym joined) ∙ map-append (λ (m : PageModel). m.page) first later
 
   counts : (n : ℕ) → times n (numbers_of p.made) ≡ times n (numbers_of first) + times n (numbers_of later)
   counts n = ap (times n) numbers ∙ times_append n (numbers_of first) (numbers_of later)
 
-  abbrev disk : ℕ → Result Sheet PageFault
-  disk n = sheet_at (reads (now (pager_history history p))) (durable_root p.store) n
+  abbrev disk : ℕ → Result PageModel PageFault
+  disk n = model_at (reads (now (pager_history history p))) (durable_root p.store) n
 
   -- a page that wasn't made since
-  left_sheet : (n : ℕ) → AllByRecursion (λ (m : Sheet). m.page ≢ n) later → sheets_of history q n ≡ sheets_of history p n
-  left_sheet n none =
-      sym (ap (λ (made : List Sheet). made_or made n (disk n)) (sym joined) ∙ made_joined first later n (disk n)
+  left_model : (n : ℕ) → AllByRecursion (λ (m : PageModel). m.page ≢ n) later → models_of history q n ≡ models_of history p n
+  left_model n none =
+      sym (ap (λ (made : List PageModel). made_or made n (disk n)) (sym joined) ∙ made_joined first later n (disk n)
       ∙ ap (made_or first n) (made_none later n (disk n) none))
 
-  left_live : (n : ℕ) → AllByRecursion (λ (m : Sheet). m.page ≢ n) later → (store_of history q).live n ≡ (store_of history p).live n
+  left_live : (n : ℕ) → AllByRecursion (λ (m : PageModel). m.page ≢ n) later → (store_of history q).live n ≡ (store_of history p).live n
   left_live n none =
       let free : is_free q.book.states n ≡ is_free p.book.states n =
       ap (λ (pages : List PageState). is_free pages n) states_are
       ∙ ap (λ (s : PageState). nat_lt 0 n && is_free_state s) (rewound_other later p.book.states n none) in
-      (λ i. is_ok (left_sheet n none i) && not (free i))
+      (λ i. is_ok (left_model n none i) && not (free i))
 
   -- one that was
   gone_dead : (n : ℕ) → IsMember later n → (store_of history q).live n ≡ false
   gone_dead n r =
       let some_number : 0 < n =
-      subst (λ (m : ℕ). 0 < m) r.is (all_among (λ (m : Sheet). 0 < m.page) later r.sheet (all_drop (λ (m : Sheet). 0 < m.page) some p.made positive) r.among) in
+      subst (λ (m : ℕ). 0 < m) r.is (all_among (λ (m : PageModel). 0 < m.page) later r.model (all_drop (λ (m : PageModel). 0 < m.page) some p.made positive)
+      r.among) in
       let test : nat_lt 0 n ≡ true = grind (arith, nat_tests, some_number) in
       let state : get_or (rewind (takes_of later) p.book.states) n states.Retired ≡ states.Free =
       rewound_free later p.book.states (can_drop some p.made p.book.states can) n r.count in
       let free : is_free q.book.states n ≡ true =
       ap (λ (pages : List PageState). is_free pages n) states_are ∙ (λ i. test i && is_free_state (state i)) in
-      (λ i. is_ok (sheets_of history q n) && not (free i)) ∙ and_false (is_ok (sheets_of history q n))
+      (λ i. is_ok (models_of history q n) && not (free i)) ∙ and_false (is_ok (models_of history q n))
 
   made_live : (n : ℕ) → IsMember later n → (store_of history p).live n ≡ true
   made_live n r = elim (member p.made n) [
@@ -146,7 +148,7 @@ module _ {D : Type 0} (history : D → History) (p : State D) (booked : IsBookFo
 
   still_at : (n : ℕ) (content : Content) → IsAt (store_of history q) n content → IsAt (store_of history p) n content
   still_at n content at = elim (member later n) [
-    | inl none ↦ record { number = at.number; live = sym (left_live n none) ∙ at.live; holds = sym (ap content_in (left_sheet n none)) ∙ at.holds }
+    | inl none ↦ record { number = at.number; live = sym (left_live n none) ∙ at.live; holds = sym (ap content_in (left_model n none)) ∙ at.holds }
     | inr r ↦ let never : true ≡ false = sym at.live ∙ gone_dead n r in absurd cc
   ]
 
@@ -188,7 +190,7 @@ module _ {D : Type 0} (history : D → History) (p : State D) (booked : IsBookFo
     made_on = (reverse (numbers_of later), made_on);
     retired_on = (reverse (drop few p.retired), retired_on);
     failures = omega arith;
-    full_takes = omega arith;
+    failed_allocations = omega arith;
     counts = counts_same (store_of history q) (store_of history p) refl refl;
   }
 
@@ -200,7 +202,7 @@ module _ {D : Type 0} (history : D → History) (p : State D) (booked : IsBookFo
       (older : KeepsWord (pager_history history p) → (n : ℕ) → 1 ≤ times n reached → times n (numbers_of later) ≡ 0) where
     older_page : KeepsWord (pager_history history p) → (n : ℕ) → 1 ≤ times n reached → Moves (store_of history p) (store_of history q) n
     older_page k n there content at = elim (member later n) [
-      | inl none ↦ record { number = at.number; live = left_live n none ∙ at.live; holds = ap content_in (left_sheet n none) ∙ at.holds }
+      | inl none ↦ record { number = at.number; live = left_live n none ∙ at.live; holds = ap content_in (left_model n none) ∙ at.holds }
       | inr r ↦ absurd (omega (arith, r.count, older k n there))
     ]
 
@@ -233,7 +235,8 @@ module _ {D : Type 0} (history : D → History) (p start : State D) (live : List
 
 -- ---- after a pin, or the end of one
 
-module _ {D : Type 0} (history : D → History) (p : State D) (booked : IsBookFor p.made p.book) (positive : AllByRecursion (λ (m : Sheet). 0 < m.page) p.made)
+module _ {D : Type 0} (history : D → History) (p : State D) (booked : IsBookFor p.made p.book)
+    (positive : AllByRecursion (λ (m : PageModel). 0 < m.page) p.made)
     (book : Book) (leaves : LeavesUse p.book book) where
   abbrev pub with_book : State D
   with_book = record { store = p.store; made = p.made; retired = p.retired; book = book }
@@ -296,7 +299,7 @@ module _ {D : Type 0} (history : D → History) (p : State D) (booked : IsBookFo
       ] in
       record {
         number = at.number;
-        live = (λ i. is_ok (sheets_of history p n) && not (not_free i)) ∙ live_part (is_ok (sheets_of history p n)) _ at.live;
+        live = (λ i. is_ok (models_of history p n) && not (not_free i)) ∙ live_part (is_ok (models_of history p n)) _ at.live;
         holds = at.holds;
       }
     where
@@ -330,7 +333,7 @@ module _ {D : Type 0} (history : D → History) (p : State D) (booked : IsBookFo
         ap flag lived,
         flag_most ((store_of history p).live n),
         times_reverse n (numbers_of p.made),
-        ap (λ (made : List Sheet). times n (reverse (numbers_of made))) empty,
+        ap (λ (made : List PageModel). times n (reverse (numbers_of made))) empty,
       )
 
   pub goes_on_with : ((version : Version) (reached : List ℕ) (entries : List Entry) → KeepsVersion history version reached entries p

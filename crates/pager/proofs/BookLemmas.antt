@@ -7,7 +7,7 @@ use Rattle.std.specs.List.{AllByRecursion}
 use Rattle.std.proofs.lemmas.Bool.{cases_Bool, cases_eq}
 use Rattle.std.proofs.lemmas.Bool.Decides.{nat_tests}
 use Rattle.std.proofs.lemmas.List.{get_or-set_other, get_or-set_same, get_or_default, length-set, take_more}
-use Rattle.page.specs.Format.{Sheet}
+use Rattle.page.specs.Format.{PageModel}
 use Rattle.btree.specs.Keys.{times}
 use Rattle.btree.specs.Reach.{AreOnce}
 use Rattle.btree.specs.Store.{flag}
@@ -58,7 +58,7 @@ retired_after : (v : ℕ) (pages : List ℕ) (b : Book) → retired_all v pages 
 retired_after v [] b = refl
 retired_after v (p ∷ pages) b = retired_after v pages (retired p v b)
 
-same_full : (p v : ℕ) (b : Book) → (retired p v b).full_takes ≡ b.full_takes
+same_full : (p v : ℕ) (b : Book) → (retired p v b).failed_allocations ≡ b.failed_allocations
 same_full p v b = elim (cases_Bool (is_in_use b.states p)) [ inl so ↦ rw so refl | inr not_so ↦ rw not_so refl ]
 
 same_pins : (p v : ℕ) (b : Book) → (retired p v b).pins ≡ b.pins
@@ -70,7 +70,7 @@ same_waiting p v b = elim (cases_Bool (is_in_use b.states p)) [ inl so ↦ rw so
 same_length : (p v : ℕ) (b : Book) → length (retired p v b).states ≡ length b.states
 same_length p v b = elim (cases_Bool (is_in_use b.states p)) [ inl so ↦ rw so (length-set b.states p states.Retired) | inr not_so ↦ rw not_so refl ]
 
-pub all_full : (v : ℕ) (pages : List ℕ) (b : Book) → (retired_all v pages b).full_takes ≡ b.full_takes
+pub all_full : (v : ℕ) (pages : List ℕ) (b : Book) → (retired_all v pages b).failed_allocations ≡ b.failed_allocations
 all_full v [] b = refl
 all_full v (p ∷ pages) b = all_full v pages (retired p v b) ∙ same_full p v b
 
@@ -93,8 +93,9 @@ all_sound v (p ∷ pages) b sound = all_sound v pages (retired p v b) ((stays_so
 pub back_all : (v : ℕ) (pages : List ℕ) (b : Book) → undone (length b.turn) (retired_all v pages b) ≡ b
 back_all v pages b =
     let calls : List Call = map (λ p. retire p v) pages in
-    let full : (after calls b).full_takes ≡ b.full_takes = ap (λ (c : Book). c.full_takes) (sym (retired_after v pages b)) ∙ all_full v pages b in
-    ap (undone (length b.turn)) (retired_after v pages b) ∙ undoing_leads_back b calls ∙ (λ i. record b { full_takes = full i })
+    let full : (after calls b).failed_allocations ≡ b.failed_allocations = ap (λ (c : Book). c.failed_allocations) (sym (retired_after v pages b))
+    ∙ all_full v pages b in
+    ap (undone (length b.turn)) (retired_after v pages b) ∙ undoing_leads_back b calls ∙ (λ i. record b { failed_allocations = full i })
 
 -- nor is anything taken back
 longer : (p v : ℕ) (b : Book) → length b.turn ≤ length (retired p v b).turn
@@ -230,7 +231,7 @@ pub record LeavesUse (old new : Book) : Type 0 where
   pub turn : new.turn ≡ old.turn
   pub long : length new.states ≡ length old.states
   pub used : (n : ℕ) → is_in_use new.states n ≡ is_in_use old.states n
-  pub full : new.full_takes ≡ old.full_takes
+  pub full : new.failed_allocations ≡ old.failed_allocations
   pub sound : IsSound new
 
 pub pin_leaves : (v : ℕ) (b : Book) → IsSound b → LeavesUse b (pinned v b)
@@ -250,7 +251,7 @@ unpin_leaves v b sound =
 pub nothing_leaves : (b : Book) → IsSound b → LeavesUse b b
 nothing_leaves b sound = record { turn = refl; long = refl; used = λ n. refl; full = refl; sound = sound }
 
-pub booked_leaves : (made : List Sheet) (old new : Book) → LeavesUse old new → IsBookFor made old → IsBookFor made new
+pub booked_leaves : (made : List PageModel) (old new : Book) → LeavesUse old new → IsBookFor made old → IsBookFor made new
 booked_leaves made old new leaves booked = record {
   sound = leaves.sound;
   turn = leaves.turn ∙ booked.turn;
@@ -294,7 +295,7 @@ others_of b sound n some within =
 
 -- ---- what the turn took is in use
 
-pub taken_use : (made : List Sheet) (pages : List PageState) → CanRewind (takes_of made) pages → (n : ℕ)
+pub taken_use : (made : List PageModel) (pages : List PageState) → CanRewind (takes_of made) pages → (n : ℕ)
     → flag (is_in_use pages n) ≡ flag (is_in_use (rewind (takes_of made) pages) n) + times n (numbers_of made)
 taken_use [] pages can n = omega arith
 taken_use (m ∷ made) pages can n =
@@ -314,14 +315,14 @@ taken_use (m ∷ made) pages can n =
     ]
 
 -- a page that the turn made is one of the book's
-pub made_below : (made : List Sheet) (book : Book) → IsBookFor made book → (n : ℕ) → 1 ≤ times n (numbers_of made) → n < length book.states
+pub made_below : (made : List PageModel) (book : Book) → IsBookFor made book → (n : ℕ) → 1 ≤ times n (numbers_of made) → n < length book.states
 made_below made book booked n some =
     let can : CanRewind (takes_of made) book.states = subst (λ (turn : List Change). CanRewind turn book.states) booked.turn booked.sound.undoable in
     let used : is_in_use book.states n ≡ true = flag_some (is_in_use book.states n) (omega (arith, some, taken_use made book.states can n)) in
     below book.states n states.InUse (used_is (get_or book.states n states.Retired) used) (λ e. cc)
 
 -- and made once
-pub made_once : (made : List Sheet) (book : Book) → IsBookFor made book → AreOnce (numbers_of made)
+pub made_once : (made : List PageModel) (book : Book) → IsBookFor made book → AreOnce (numbers_of made)
 made_once made book booked n =
     let can : CanRewind (takes_of made) book.states = subst (λ (turn : List Change). CanRewind turn book.states) booked.turn booked.sound.undoable in
     omega (arith, taken_use made book.states can n, flag_most (is_in_use book.states n))

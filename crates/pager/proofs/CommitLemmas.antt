@@ -2,7 +2,7 @@
 use Rattle.std.proofs.Common.{◌≡◌, ℕ, ◌≤◌, true, false, List, [], ◌++◌, length, refl, sym, ◌∙◌, ap, subst, arith, inr, None}
 use Rattle.std.specs.Prelude.{Ok, Err}
 use Rattle.page.specs.Cache.{kept}
-use Rattle.page.specs.Format.{Sheet}
+use Rattle.page.specs.Format.{PageModel}
 use Rattle.page.specs.History.{History}
 use Rattle.page.specs.declared.page_cache.PageCache.{PageCache}
 use Rattle.page.proofs.Moments.{goes_nowhere}
@@ -17,7 +17,7 @@ use Rattle.roots.specs.declared.root.Root.{Root}
 use Rattle.roots.specs.declared.store.CommitFault.{CommitFault}
 use Rattle.roots.specs.declared.store.CommitFault.TheVariants as faults
 use Rattle.roots.specs.declared.store.Store.{Store}
-use Rattle.pager.specs.Commit.{Commits, MovesTurns}
+use Rattle.pager.specs.Commit.{CommitsPages, MovesTurns}
 use Rattle.pager.specs.Kept.{IsKept}
 use Rattle.pager.specs.Order.{pages_at}
 use Rattle.pager.specs.Pinning.{KeepsVersions}
@@ -32,30 +32,30 @@ use Rattle.pager.proofs.KeepingLemmas.{done_keeps, failed_keeps}
 use Rattle.pager.proofs.PlanLemmas.{all, count_is as count_of_plan, named_few, none_unused, planned, tree, tree_inside, wide}
 
 -- what is told of the parts that a call was handed is told of those of the pager
-pub told_of : {root then : Root} {one made : List Sheet} {those places gone retired other listed : List ℕ} (P : Root → List Sheet → List ℕ → Type 0)
+pub told_of : {root then : Root} {one made : List PageModel} {those places gone retired other listed : List ℕ} (P : Root → List PageModel → List ℕ → Type 0)
     → root ≡ then → one ≡ made → those ≡ places → gone ≡ retired → other ≡ listed → P root (pages_at one those) (gone ++ other)
     → P then (pages_at made places) (retired ++ listed)
 told_of {root = root} {one = one} {made = made} {those = those} {places = places} {retired = retired} {listed = listed} P root_is made_is places_is
     retired_is listed_is so =
     subst (λ (r : Root). P r (pages_at made places) (retired ++ listed)) root_is
-    (subst (λ (m : List Sheet). P root m (retired ++ listed)) (λ j. pages_at (made_is j) (places_is j))
+    (subst (λ (m : List PageModel). P root m (retired ++ listed)) (λ j. pages_at (made_is j) (places_is j))
     (subst (P root (pages_at one those)) (λ j. retired_is j ++ listed_is j) so))
 
-pub told : {root then : Root} {one made : List Sheet} {those places gone retired other listed : List ℕ} (plan : Plan) (book final : Book) → root ≡ then
+pub told : {root then : Root} {one made : List PageModel} {those places gone retired other listed : List ℕ} (plan : Plan) (book final : Book) → root ≡ then
     → one ≡ made → those ≡ places → gone ≡ retired → other ≡ listed → IsPlanned root (pages_at one those) (gone ++ other) plan book final
     → IsPlanned then (pages_at made places) (retired ++ listed) plan book final
 told plan book final = told_of (λ root made pages. IsPlanned root made pages plan book final)
 
 -- nothing was planned
-module _ {D : Type 0} {listed places : List ℕ} (history : D → History) (store : Store D) (cache : PageCache) (made : List Sheet) (retired : List ℕ)
+module _ {D : Type 0} {listed places : List ℕ} (history : D → History) (store : Store D) (cache : PageCache) (made : List PageModel) (retired : List ℕ)
     (book : Book) (so : IsKept history store cache made book listed places) (running : IsRunning store) where
   abbrev old : State D
   old = record { store = store; made = made; retired = retired; book = book }
 
   pub unplanned : (root : ℕ) (fault : CommitFault) (new : Book) → PlanFails (durable_root store) (pages_at made places) (retired ++ listed) fault book new
-      → Commits history root (Err fault) old (record old { book = new })
+      → CommitsPages history root (Err fault) old (record old { book = new })
   unplanned root faults.Memory new same = record {
-    on = goes_nowhere (disk_history history store);
+    extends = goes_nowhere (disk_history history store);
     running = tt;
     version = tt;
     still = refl;
@@ -70,7 +70,7 @@ module _ {D : Type 0} {listed places : List ℕ} (history : D → History) (stor
     idle = λ stopped. let never : true ≡ false = sym stopped ∙ running in absurd cc;
   }
   unplanned root faults.Full new (lacks, is) = record {
-    on = goes_nowhere (disk_history history store);
+    extends = goes_nowhere (disk_history history store);
     running = tt;
     version = tt;
     still = refl;
@@ -95,7 +95,7 @@ module _ {D : Type 0} {listed places : List ℕ} (history : D → History) (stor
   }
   unplanned root faults.Device new none = absurd none
 
-module _ {D : Type 0} {listed places : List ℕ} (history : D → History) (store : Store D) (before cache : PageCache) (made : List Sheet) (retired : List ℕ)
+module _ {D : Type 0} {listed places : List ℕ} (history : D → History) (store : Store D) (before cache : PageCache) (made : List PageModel) (retired : List ℕ)
     (book final : Book) (so_before : IsKept history store before made book listed places) (plan : Plan)
     (is : IsPlanned (durable_root store) (pages_at made places) (retired ++ listed) plan book final) (forgets : Forgets plan.listed.items before cache) where
   abbrev p : State D
@@ -110,7 +110,7 @@ module _ {D : Type 0} {listed places : List ℕ} (history : D → History) (stor
   abbrev mid : Book
   mid = planned history store cache made (retired ++ listed) book so
 
-  abbrev those : List Sheet
+  abbrev those : List PageModel
   those = tree history store cache made (retired ++ listed) book so
 
   list : IsMade (pages_with (durable_root store) those) pages is.named mid final
@@ -119,7 +119,7 @@ module _ {D : Type 0} {listed places : List ℕ} (history : D → History) (stor
   gone : (n : ℕ) → 1 ≤ times n pages → kept cache n ≡ None
   gone = gone_then pages before cache forgets
 
-  abbrev written_all : List Sheet
+  abbrev written_all : List PageModel
   written_all = all history store cache made (retired ++ listed) book so pages is.named final list
 
   abbrev first : ℕ
@@ -129,9 +129,9 @@ module _ {D : Type 0} {listed places : List ℕ} (history : D → History) (stor
   count_is = omega (arith, is.count, named_few history store cache made (retired ++ listed) book so pages is.named final list)
 
   -- what is said of the plan's pages, in the words of its parts
-  recast : (P : List Sheet → ℕ → ℕ → Type 0) → P plan.written.items plan.free_list plan.free_count → P written_all first (length is.named)
+  recast : (P : List PageModel → ℕ → ℕ → Type 0) → P plan.written.items plan.free_list plan.free_count → P written_all first (length is.named)
   recast P holds =
-      subst (λ (sheets : List Sheet). P sheets first (length is.named)) is.writes
+      subst (λ (models : List PageModel). P models first (length is.named)) is.writes
       (subst (λ (n : ℕ). P plan.written.items n (length is.named)) is.first (subst (P plan.written.items plan.free_list) count_is holds))
 
   -- undoing leads back
@@ -141,7 +141,7 @@ module _ {D : Type 0} {listed places : List ℕ} (history : D → History) (stor
       (wide history store cache made (retired ++ listed) book so pages is.named final list).longer (goes_back pages mid final list.takes)
       (back_all (durable_root store).generation (retired ++ listed) book)
 
-  pub full_same : final.full_takes ≡ book.full_takes
+  pub full_same : final.failed_allocations ≡ book.failed_allocations
   full_same =
       (wide history store cache made (retired ++ listed) book so pages is.named final list).full
       ∙ all_full (durable_root store).generation (retired ++ listed) book
@@ -153,19 +153,19 @@ module _ {D : Type 0} {listed places : List ℕ} (history : D → History) (stor
         → IsKept history new cache made book listed places
     failed_kept leaves =
         kept_failed history store cache made (retired ++ listed) book so pages is.named final list gone new root first (length is.named) fault commits
-        (recast (λ sheets free_list free_count. LeavesPages history sheets root free_list free_count (Err fault) store new) leaves)
+        (recast (λ models free_list free_count. LeavesPages history models root free_list free_count (Err fault) store new) leaves)
 
     pub failed_moves : MovesMaps history plan.written.items root plan.free_list plan.free_count (Err fault) store new
         → MovesTurns history root (Err fault) p (record { store = new; made = made; retired = retired; book = book })
     failed_moves moves =
         moves_failed history store cache made retired book so pages is.named final list root fault new commits
-        (recast (λ sheets free_list free_count. MovesMaps history sheets root free_list free_count (Err fault) store new) moves) is.content
+        (recast (λ models free_list free_count. MovesMaps history models root free_list free_count (Err fault) store new) moves) is.content
 
     pub failed_versions : LeavesPages history plan.written.items root plan.free_list plan.free_count (Err fault) store new
         → KeepsVersions history p (record { store = new; made = made; retired = retired; book = book })
     failed_versions leaves =
         failed_keeps history store cache made retired (retired ++ listed) book so pages is.named final list gone new root first (length is.named) fault
-        (recast (λ sheets free_list free_count. LeavesPages history sheets root free_list free_count (Err fault) store new) leaves) commits.on.kept
+        (recast (λ models free_list free_count. LeavesPages history models root free_list free_count (Err fault) store new) leaves) commits.extends.kept
 
   -- ---- it was done
 
@@ -173,32 +173,32 @@ module _ {D : Type 0} {listed places : List ℕ} (history : D → History) (stor
       (leaves : LeavesPages history plan.written.items root plan.free_list plan.free_count (Ok tt) store new) (after : PageCache)
       (keeps : KeepsAll plan.written.items cache after) (last : ℕ) where
     leaves_all : LeavesPages history written_all root first (length is.named) (Ok tt) store new
-    leaves_all = recast (λ sheets free_list free_count. LeavesPages history sheets root free_list free_count (Ok tt) store new) leaves
+    leaves_all = recast (λ models free_list free_count. LeavesPages history models root free_list free_count (Ok tt) store new) leaves
 
     keeps_all : KeepsAll written_all cache after
-    keeps_all = subst (λ (sheets : List Sheet). KeepsAll sheets cache after) is.writes keeps
+    keeps_all = subst (λ (models : List PageModel). KeepsAll models cache after) is.writes keeps
 
     pub done_kept : IsKept history new after [] (committed last final) pages []
     done_kept =
         kept_after history store cache made (retired ++ listed) book so pages is.named final list gone new after root leaves_all is.content keeps_all
-        commits.on.kept last
+        commits.extends.kept last
 
     pub done_moves : MovesMaps history plan.written.items root plan.free_list plan.free_count (Ok tt) store new
         → MovesTurns history root (Ok tt) p (record { store = new; made = []; retired = []; book = committed last final })
     done_moves moves =
         moves_done history store cache made retired book so pages is.named final list root new commits
-        (recast (λ sheets free_list free_count. MovesMaps history sheets root free_list free_count (Ok tt) store new) moves) is.content
+        (recast (λ models free_list free_count. MovesMaps history models root free_list free_count (Ok tt) store new) moves) is.content
         (list_now history store cache made (retired ++ listed) book so pages is.named final list gone new after root leaves_all is.content keeps_all
-        commits.on.kept) last
+        commits.extends.kept) last
 
     pub done_versions : KeepsVersions history p (record { store = new; made = []; retired = []; book = committed last final })
     done_versions =
         done_keeps history store cache made retired (retired ++ listed) book so pages is.named final list gone new after root leaves_all is.content keeps_all
-        commits.on.kept (omega (arith, commits.version)) last
+        commits.extends.kept (omega (arith, commits.version)) last
 
-    pub done_commits : Commits history root (Ok tt) p (record { store = new; made = []; retired = []; book = committed last final })
+    pub done_commits : CommitsPages history root (Ok tt) p (record { store = new; made = []; retired = []; book = committed last final })
     done_commits = record {
-      on = commits.on;
+      extends = commits.extends;
       running = commits.running;
       version = commits.version;
       still = tt;
@@ -206,7 +206,7 @@ module _ {D : Type 0} {listed places : List ℕ} (history : D → History) (stor
       listed = λ none n inside below.
           let root_now = root_is history store cache made (retired ++ listed) book so pages is.named final list gone new after root leaves_all is.content
           keeps_all
-          commits.on.kept in
+          commits.extends.kept in
           let count = count_of_plan history store cache made (retired ++ listed) book so pages is.named final list in
           let first_none : first ≡ 0 = sym (ap (λ (r : Root). r.free_list) root_now) ∙ none in
           none_unused history store cache made (retired ++ listed) book so pages is.named final list last first_none n inside

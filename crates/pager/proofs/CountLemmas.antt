@@ -2,7 +2,7 @@
 use Rattle.std.proofs.Common.{◌≡◌, ℕ, ◌≤◌, max, List, ◌∷◌, ◌++◌, length, refl, sym, ap, subst, arith}
 use Rattle.std.specs.Prelude.{◌&&◌, is_ok, not, Result}
 use Rattle.std.specs.List.{AllByRecursion}
-use Rattle.page.specs.Format.{Sheet}
+use Rattle.page.specs.Format.{PageModel}
 use Rattle.page.specs.History.{History, KeepsWord}
 use Rattle.page.specs.declared.page_cache.PageCache.{PageCache}
 use Rattle.btree.specs.Store.{IsSame, Stays, flag}
@@ -21,11 +21,11 @@ use Rattle.pager.specs.Calls.{OnlyRead}
 use Rattle.pager.specs.Counting.{CountsPages}
 use Rattle.pager.specs.Kept.{IsKept, IsNew}
 use Rattle.pager.specs.State.{State}
-use Rattle.pager.specs.View.{book_numbers, pager_history, root_numbers, sheets_of, store_of}
+use Rattle.pager.specs.View.{book_numbers, pager_history, root_numbers, models_of, store_of}
 use Rattle.pager.proofs.ReadLemmas.{still_agrees, still_listed, still_there}
 use Rattle.pager.proofs.TurnLemmas.{committed_still}
 
-module _ {D : Type 0} (history : D → History) (store new : Store D) (only : OnlyRead history store new) (made : List Sheet) (book : Book) where
+module _ {D : Type 0} (history : D → History) (store new : Store D) (only : OnlyRead history store new) (made : List PageModel) (book : Book) where
   pub kept_read : {places : List ℕ} (cache : PageCache) (listed : List ℕ) → IsKept history store cache made book listed places
       → IsKept history new cache made book listed places
   kept_read cache listed so = record {
@@ -52,15 +52,15 @@ module _ {D : Type 0} (history : D → History) (store new : Store D) (only : On
 
     same_read : KeepsWord (pager_history history after) → IsSame (store_of history before) (store_of history after)
     same_read k =
-        let there : (n : ℕ) → sheets_of history after n ≡ sheets_of history before n = λ n. ap (made_or made n) (still_there history store new only k n) in
+        let there : (n : ℕ) → models_of history after n ≡ models_of history before n = λ n. ap (made_or made n) (still_there history store new only k n) in
         record {
-          word = only.reads.on.kept k;
+          word = only.reads.extends.kept k;
           page = (λ i n. content_in (there n i));
           live = (λ i n. is_ok (there n i) && not (is_free book.states n));
           made = refl;
           retired = refl;
-          failures = only.reads.on.failures k;
-          full_takes = omega arith;
+          failures = only.reads.extends.failures k;
+          failed_allocations = omega arith;
           counts = (let noted = only.noted k in record { rises = noted.rises; paced = noted.paced; counted = noted.counted });
         }
 
@@ -72,5 +72,5 @@ module _ {D : Type 0} (history : D → History) (store new : Store D) (only : On
       cause = looks.cause;
       stands = counts.stands;
       counts = λ k start live entries begun grows.
-          counts.counts k live entries (committed_still history before start grows.stays (only.reads.on.kept k) live entries begun);
+          counts.counts k live entries (committed_still history before start grows.stays (only.reads.extends.kept k) live entries begun);
     }

@@ -3,7 +3,7 @@ use Rattle.std.proofs.Common.{◌≡◌, ℕ, ◌<◌, List, [], ◌++◌, lengt
 use Rattle.std.specs.Prelude.{◌⊎◌, Result, Ok, Err}
 use Rattle.std.specs.List.{AllByRecursion}
 use Rattle.page.specs.Content.{IsContent}
-use Rattle.page.specs.Format.{Sheet}
+use Rattle.page.specs.Format.{PageModel}
 use Rattle.page.specs.History.{History, KeepsWord, now, reads}
 use Rattle.page.specs.declared.page_cache.PageCache.{PageCache}
 use Rattle.page.proofs.Moments.{started}
@@ -16,11 +16,11 @@ use Rattle.freelist.proofs.WrittenLists.{reading_is_exact, written_pages}
 use Rattle.roots.specs.declared.store.CommitFault.{CommitFault}
 use Rattle.roots.specs.declared.store.Store.{Store}
 use Rattle.roots.specs.Commit.{CommitsRoot, MovesMap, MovesMaps}
-use Rattle.roots.specs.Image.{StandsFor, list_in, reached_by, sheet_at}
+use Rattle.roots.specs.Image.{StandsFor, list_in, reached_by, model_at}
 use Rattle.roots.specs.Store.{disk_history, durable_root}
 use Rattle.roots.specs.Turn.{next_root}
 use Rattle.roots.proofs.TurnLemmas.{stands_now}
-use Rattle.pager.specs.Commit.{Commits, IsTurn, MovesTurns}
+use Rattle.pager.specs.Commit.{CommitsPages, IsTurn, MovesTurns}
 use Rattle.pager.specs.Kept.{IsKept}
 use Rattle.pager.specs.Planning.{pages_with}
 use Rattle.pager.specs.State.{State}
@@ -33,7 +33,7 @@ use Rattle.pager.proofs.ReadLemmas.{HasListIn, IsListIn}
 use Rattle.pager.proofs.TurnLemmas.{committed_still}
 use Rattle.pager.proofs.WrittenLemmas.{roots_turn, tree_use}
 
-module _ {D : Type 0} {listed places : List ℕ} (history : D → History) (store : Store D) (cache : PageCache) (made : List Sheet) (retired : List ℕ)
+module _ {D : Type 0} {listed places : List ℕ} (history : D → History) (store : Store D) (cache : PageCache) (made : List PageModel) (retired : List ℕ)
     (book : Book) (so : IsKept history store cache made book listed places) where
   abbrev p : State D
   p = record { store = store; made = made; retired = retired; book = book }
@@ -41,11 +41,11 @@ module _ {D : Type 0} {listed places : List ℕ} (history : D → History) (stor
   abbrev mid : Book
   mid = planned history store cache made (retired ++ listed) book so
 
-  abbrev those : List Sheet
+  abbrev those : List PageModel
   those = tree history store cache made (retired ++ listed) book so
 
   module _ (pages named : List ℕ) (final : Book) (list : IsMade (pages_with (durable_root store) those) pages named mid final) where
-    abbrev written_all : List Sheet
+    abbrev written_all : List PageModel
     written_all = all history store cache made (retired ++ listed) book so pages named final list
 
     -- in the book the pages that the new root reaches are in use
@@ -70,7 +70,7 @@ module _ {D : Type 0} {listed places : List ℕ} (history : D → History) (stor
           → HasListIn reached parts (now (disk_history history new)) (durable_root new) → AreInUse (reached_by reached parts) (committed last final)
       in_use_after new there parts has =
           let r = durable_root new in
-          let contents = list_in (sheet_at (reads (now (disk_history history new))) r) in
+          let contents = list_in (model_at (reads (now (disk_history history new))) r) in
           let same : pages_of parts ≡ pages =
           ap pages_of (reading_is_exact contents r.pages r.free_list r.free_count r.free_count parts (written pages named) has.list there)
           ∙ written_pages pages named in
@@ -82,7 +82,7 @@ module _ {D : Type 0} {listed places : List ℕ} (history : D → History) (stor
 
     module _ (root : ℕ) (result : Result (Unit {0}) CommitFault) (new : Store D) (commits : CommitsRoot history root result store new)
         (moves : MovesMaps history written_all root (first_page (written pages named)) (length named) result store new)
-        (content : AllByRecursion (λ (m : Sheet). IsContent m.content) those) where
+        (content : AllByRecursion (λ (m : PageModel). IsContent m.content) those) where
       moved : (start : State D) (live : List ℕ) (before : List Entry) → IsBegun history start live before → (reached : List ℕ) (after : List Entry)
           → (KeepsWord (disk_history history store) → IsTurn history start p root live reached after)
           → KeepsWord (disk_history history new)
@@ -90,13 +90,13 @@ module _ {D : Type 0} {listed places : List ℕ} (history : D → History) (stor
           store
           new
       moved start live before begun reached after turn k2 =
-          let k = commits.on.kept k2 in
+          let k = commits.extends.kept k2 in
           moves before live (committed_still history p start (turn k).grows.stays k live before begun) after reached
           (roots_turn history p start (turn k).grows.stays k live before begun cache so root reached after (turn k) pages named final list content)
 
     pub moves_done : (root : ℕ) (new : Store D) → CommitsRoot history root (Ok tt) store new
         → MovesMaps history written_all root (first_page (written pages named)) (length named) (Ok tt) store new
-        → AllByRecursion (λ (m : Sheet). IsContent m.content) those
+        → AllByRecursion (λ (m : PageModel). IsContent m.content) those
         → (KeepsWord (disk_history history new) → IsListIn (written pages named) (now (disk_history history new)) (durable_root new)) → (last : ℕ)
         → MovesTurns history root (Ok tt) p (record { store = new; made = []; retired = []; book = committed last final })
     moves_done root new commits moves content there last start live before begun reached after turn =
@@ -110,13 +110,13 @@ module _ {D : Type 0} {listed places : List ℕ} (history : D → History) (stor
             turn = refl;
             committed = λ k2. (all_moves k2).committed;
             in_use = λ k2.
-                in_use_after root start live before begun reached after (turn (commits.on.kept k2)) (commits.on.kept k2) last new (there k2);
+                in_use_after root start live before begun reached after (turn (commits.extends.kept k2)) (commits.extends.kept k2) last new (there k2);
           };
         }
 
     pub moves_failed : (root : ℕ) (fault : CommitFault) (new : Store D) → CommitsRoot history root (Err fault) store new
         → MovesMaps history written_all root (first_page (written pages named)) (length named) (Err fault) store new
-        → AllByRecursion (λ (m : Sheet). IsContent m.content) those
+        → AllByRecursion (λ (m : PageModel). IsContent m.content) those
         → MovesTurns history root (Err fault) p (record { store = new; made = made; retired = retired; book = book })
     moves_failed root fault new commits moves content start live before begun reached after turn =
         let all_moves = moved root (Err fault) new commits moves content start live before begun reached after turn in
@@ -143,9 +143,9 @@ module _ {D : Type 0} {listed places : List ℕ} (history : D → History) (stor
   }
 
   pub commits_failed : (root : ℕ) (fault : CommitFault) (new : Store D) → CommitsRoot history root (Err fault) store new → durable_root new ≡ durable_root store
-      → Commits history root (Err fault) p (record { store = new; made = made; retired = retired; book = book })
+      → CommitsPages history root (Err fault) p (record { store = new; made = made; retired = retired; book = book })
   commits_failed root fault new commits still = record {
-    on = commits.on;
+    extends = commits.extends;
     running = tt;
     version = tt;
     still = still;

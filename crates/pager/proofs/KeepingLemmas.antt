@@ -5,9 +5,9 @@ use Rattle.std.specs.List.{AllByRecursion}
 use Rattle.std.proofs.lemmas.Bool.{cases_Bool, cases_eq}
 use Rattle.page.specs.Cache.{kept}
 use Rattle.page.specs.Content.{IsContent, is_of_tree}
-use Rattle.page.specs.Format.{Sheet}
+use Rattle.page.specs.Format.{PageModel}
 use Rattle.page.specs.History.{History, KeepsWord, now, reads}
-use Rattle.page.specs.PageLaws.{IsSheet}
+use Rattle.page.specs.PageLaws.{IsPageModel}
 use Rattle.page.specs.declared.page_cache.PageCache.{PageCache}
 use Rattle.page.specs.declared.page_fault.PageFault.{PageFault}
 use Rattle.btree.specs.Keys.{Entry, times}
@@ -25,8 +25,8 @@ use Rattle.roots.specs.declared.store.CommitFault.{CommitFault}
 use Rattle.roots.specs.declared.store.CommitFault.TheVariants as faults
 use Rattle.roots.specs.declared.store.Store.{Store}
 use Rattle.roots.specs.Commit.{LeavesPages}
-use Rattle.roots.specs.Image.{content_in, sheet_at}
-use Rattle.roots.specs.Listed.{list_sheets}
+use Rattle.roots.specs.Image.{content_in, model_at}
+use Rattle.roots.specs.Listed.{list_models}
 use Rattle.roots.specs.Store.{disk_history, durable_root}
 use Rattle.roots.specs.Turn.{LieBehind, next_root}
 use Rattle.roots.proofs.WalkLemmas.{IsFound, found_at}
@@ -35,17 +35,17 @@ use Rattle.pager.specs.Order.{pages_at}
 use Rattle.pager.specs.Pinning.{KeepsVersion, KeepsVersions, WaitSince}
 use Rattle.pager.specs.Planning.{PlanFails, next_generation, pages_with}
 use Rattle.pager.specs.State.{State}
-use Rattle.pager.specs.View.{sheets_of, store_of}
+use Rattle.pager.specs.View.{models_of, store_of}
 use Rattle.pager.specs.Writing.{IsAmong, KeepsAll, retired_all}
 use Rattle.pager.specs.declared.version.Version.{Version}
 use Rattle.pager.proofs.AfterLemmas.{each_there, next_is, still_failed, still_there}
 use Rattle.pager.proofs.BookLemmas.{all_pins, all_waiting, freed_none}
 use Rattle.pager.proofs.ListLemmas.{all_joined, all_more, all_weaker, made_none}
-use Rattle.pager.proofs.ListedLemmas.{free_before, sheets_of as each_sheet}
+use Rattle.pager.proofs.ListedLemmas.{free_before, models_of as each_model}
 use Rattle.pager.proofs.MemberLemmas.{all_among, all_filter, among_filter, member}
 use Rattle.pager.proofs.MergeLemmas.{all_merged, among_first}
 use Rattle.pager.proofs.OrderLemmas.{all_at, in_order}
-use Rattle.pager.proofs.PlanLemmas.{all, all_lie, all_new, all_sheets, free_then, planned, tree, wide}
+use Rattle.pager.proofs.PlanLemmas.{all, all_lie, all_new, all_models, free_then, planned, tree, wide}
 use Rattle.pager.proofs.TakeLemmas.{not_free, others_free}
 use Rattle.pager.proofs.TreeLemmas.{IsOfTree, map_pages}
 use Rattle.pager.proofs.StayLemmas.{map_at, pinned_since}
@@ -71,7 +71,7 @@ taken_since v [] b final same since = subst (λ (c : Book). AreSince v (retired_
 taken_since v (p ∷ pages) b final takes since =
     taken_since v pages (taken p b) final takes.1 (subst (AreSince v) (sym (retired_in_taken b.turn p)) since)
 
-takes_retire_none : (made : List Sheet) → retired_in (takes_of made) ≡ []
+takes_retire_none : (made : List PageModel) → retired_in (takes_of made) ≡ []
 takes_retire_none [] = refl
 takes_retire_none (m ∷ made) = takes_retire_none made
 
@@ -105,9 +105,9 @@ last_part false b is = absurd cc
 
 -- ---- a book that counts otherwise
 
-module _ {D : Type 0} (history : D → History) (store : Store D) (made : List Sheet) (retired_now : List ℕ) (book : Book) where
+module _ {D : Type 0} (history : D → History) (store : Store D) (made : List PageModel) (retired_now : List ℕ) (book : Book) where
   abbrev counts : ℕ → State D
-  counts count = record { store = store; made = made; retired = retired_now; book = record book { full_takes = count } }
+  counts count = record { store = store; made = made; retired = retired_now; book = record book { failed_allocations = count } }
 
   pub counted_versions : (count : ℕ) → KeepsVersions history (record { store = store; made = made; retired = retired_now; book = book }) (counts count)
   counted_versions count = record {
@@ -116,29 +116,29 @@ module _ {D : Type 0} (history : D → History) (store : Store D) (made : List S
       pinned = keeps.pinned;
       since = keeps.since;
       waits = keeps.waits;
-      holds = λ k. map_at (store_of history (counts book.full_takes)) (store_of history (counts count)) version.root pages entries
+      holds = λ k. map_at (store_of history (counts book.failed_allocations)) (store_of history (counts count)) version.root pages entries
           (λ n content at. record { number = at.number; live = at.live; holds = at.holds }) (keeps.holds k);
     };
   }
 
-planned_same : (root : Root) (made : List Sheet) (pages : List ℕ) (fault : CommitFault) (old new : Book) → PlanFails root made pages fault old new
-    → new ≡ record old { full_takes = new.full_takes }
-planned_same root made pages faults.Memory old new is = let back = sym is in is ∙ (λ i. record old { full_takes = (back i).full_takes })
-planned_same root made pages faults.Full old new (lacks, is) = let back = sym is in is ∙ (λ i. record old { full_takes = (back i).full_takes })
+planned_same : (root : Root) (made : List PageModel) (pages : List ℕ) (fault : CommitFault) (old new : Book) → PlanFails root made pages fault old new
+    → new ≡ record old { failed_allocations = new.failed_allocations }
+planned_same root made pages faults.Memory old new is = let back = sym is in is ∙ (λ i. record old { failed_allocations = (back i).failed_allocations })
+planned_same root made pages faults.Full old new (lacks, is) = let back = sym is in is ∙ (λ i. record old { failed_allocations = (back i).failed_allocations })
 planned_same root made pages faults.Device old new is = absurd is
 
-pub planned_versions : {D : Type 0} (history : D → History) (store : Store D) (made : List Sheet) (retired_now : List ℕ) (book other : Book)
-    (root : Root) (written : List Sheet) (pages : List ℕ) (fault : CommitFault) → PlanFails root written pages fault book other
+pub planned_versions : {D : Type 0} (history : D → History) (store : Store D) (made : List PageModel) (retired_now : List ℕ) (book other : Book)
+    (root : Root) (written : List PageModel) (pages : List ℕ) (fault : CommitFault) → PlanFails root written pages fault book other
     → KeepsVersions history (record { store = store; made = made; retired = retired_now; book = book })
     (record { store = store; made = made; retired = retired_now; book = other })
 planned_versions history store made retired_now book other root written pages fault fails =
     subst (λ (b : Book). KeepsVersions history (record { store = store; made = made; retired = retired_now; book = book })
     (record { store = store; made = made; retired = retired_now; book = b })) (sym (planned_same root written pages fault book other fails))
-    (counted_versions history store made retired_now book other.full_takes)
+    (counted_versions history store made retired_now book other.failed_allocations)
 
 -- ---- what is written and what isn't
 
-module _ {D : Type 0} {listed places : List ℕ} (history : D → History) (store : Store D) (cache : PageCache) (made : List Sheet) (retired_now gone : List ℕ)
+module _ {D : Type 0} {listed places : List ℕ} (history : D → History) (store : Store D) (cache : PageCache) (made : List PageModel) (retired_now gone : List ℕ)
     (book : Book) (so : IsKept history store cache made book listed places) (pages named : List ℕ) (final : Book)
     (list : IsMade (pages_with (durable_root store) (tree history store cache made gone book so)) pages named
     (planned history store cache made gone book so) final) (uncached : (n : ℕ) → 1 ≤ times n pages → kept cache n ≡ None) where
@@ -148,23 +148,23 @@ module _ {D : Type 0} {listed places : List ℕ} (history : D → History) (stor
   abbrev mid : Book
   mid = planned history store cache made gone book so
 
-  abbrev those : List Sheet
+  abbrev those : List PageModel
   those = tree history store cache made gone book so
 
-  abbrev written_all : List Sheet
+  abbrev written_all : List PageModel
   written_all = all history store cache made gone book so pages named final list
 
   abbrev version : ℕ
   version = (durable_root store).generation
 
-  abbrev sheets : List Sheet
-  sheets = list_sheets (next_generation (durable_root store)) (written pages named)
+  abbrev models : List PageModel
+  models = list_models (next_generation (durable_root store)) (written pages named)
 
-  abbrev test : Sheet → Bool
-  test sheet = is_of_tree sheet.content && (is_in_use mid.states sheet.page || is_pinned mid.pins version)
+  abbrev test : PageModel → Bool
+  test model = is_of_tree model.content && (is_in_use mid.states model.page || is_pinned mid.pins version)
 
-  abbrev disk : ℕ → Result Sheet PageFault
-  disk n = sheet_at (reads (now (disk_history history store))) (durable_root store) n
+  abbrev disk : ℕ → Result PageModel PageFault
+  disk n = model_at (reads (now (disk_history history store))) (durable_root store) n
 
   lies : LieBehind 0 written_all
   lies = all_lie history store cache made gone book so pages named final list
@@ -173,12 +173,12 @@ module _ {D : Type 0} {listed places : List ℕ} (history : D → History) (stor
   news = all_new history store cache made gone book so pages named final list uncached
 
   -- a page that the turn didn't make and that isn't free isn't written
-  none_written : (n : ℕ) → is_free book.states n ≡ false → AllByRecursion (λ (m : Sheet). m.page ≢ n) made
-      → AllByRecursion (λ (m : Sheet). m.page ≢ n) written_all
+  none_written : (n : ℕ) → is_free book.states n ≡ false → AllByRecursion (λ (m : PageModel). m.page ≢ n) made
+      → AllByRecursion (λ (m : PageModel). m.page ≢ n) written_all
   none_written n not_free_now none =
-      all_merged (λ (m : Sheet). m.page ≢ n) those sheets
-      (all_filter (λ (m : Sheet). m.page ≢ n) test (pages_at made places) (all_at (λ (m : Sheet). m.page ≢ n) made places so.order.inside none))
-      (each_sheet (λ (m : Sheet). m.page ≢ n) (next_generation (durable_root store)) pages named (λ m is taken_now same.
+      all_merged (λ (m : PageModel). m.page ≢ n) those models
+      (all_filter (λ (m : PageModel). m.page ≢ n) test (pages_at made places) (all_at (λ (m : PageModel). m.page ≢ n) made places so.order.inside none))
+      (each_model (λ (m : PageModel). m.page ≢ n) (next_generation (durable_root store)) pages named (λ m is taken_now same.
       let never : true ≡ false =
       sym (free_then history store cache made gone book so pages named final list m.page taken_now) ∙ ap (is_free book.states) same ∙ not_free_now in
       absurd cc))
@@ -187,27 +187,27 @@ module _ {D : Type 0} {listed places : List ℕ} (history : D → History) (stor
 
   module _ (new : Store D) (root free_list free_count : ℕ) (fault : CommitFault)
       (leaves : LeavesPages history written_all root free_list free_count (Err fault) store new)
-      (on : KeepsWord (disk_history history new) → KeepsWord (disk_history history store)) where
+      (extends : KeepsWord (disk_history history new) → KeepsWord (disk_history history store)) where
     abbrev failed_now : State D
     failed_now = record { store = new; made = made; retired = retired_now; book = book }
 
     module _ (k : KeepsWord (disk_history history new)) where
       failed_page : (n : ℕ) → Moves (store_of history p) (store_of history failed_now) n
       failed_page n content at =
-          let there : is_ok (sheets_of history p n) ≡ true = first_part (is_ok (sheets_of history p n)) _ at.live in
-          let not_free_now : is_free book.states n ≡ false = last_part (is_ok (sheets_of history p n)) (is_free book.states n) at.live in
+          let there : is_ok (models_of history p n) ≡ true = first_part (is_ok (models_of history p n)) _ at.live in
+          let not_free_now : is_free book.states n ≡ false = last_part (is_ok (models_of history p n)) (is_free book.states n) at.live in
           elim (member made n) [
             | inl none ↦
-                let found : IsFound (sheets_of history p n) content = found_at (sheets_of history p) n content there at.holds in
-                let was : disk n ≡ Ok found.sheet = sym (made_none made n (disk n) none) ∙ found.is in
-                let is : sheets_of history failed_now n ≡ Ok found.sheet =
+                let found : IsFound (models_of history p n) content = found_at (models_of history p) n content there at.holds in
+                let was : disk n ≡ Ok found.model = sym (made_none made n (disk n) none) ∙ found.is in
+                let is : models_of history failed_now n ≡ Ok found.model =
                 made_none made n _ none
-                ∙ still_failed history store cache so.cached written_all lies news new root free_list free_count fault leaves k n found.sheet was
+                ∙ still_failed history store cache so.cached written_all lies news new root free_list free_count fault leaves k n found.model was
                 (none_written n not_free_now none) in
                 record { number = at.number; live = (λ i. is_ok (is i) && not (not_free_now i)); holds = ap content_in is ∙ found.holds }
             | inr r ↦
-                let was : sheets_of history p n ≡ Ok r.sheet = r.there (disk n) in
-                let is : sheets_of history failed_now n ≡ Ok r.sheet = r.there _ in
+                let was : models_of history p n ≡ Ok r.model = r.there (disk n) in
+                let is : models_of history failed_now n ≡ Ok r.model = r.there _ in
                 record { number = at.number; live = (λ i. is_ok (is i) && not (not_free_now i)); holds = ap content_in (is ∙ sym was) ∙ at.holds }
           ]
 
@@ -217,8 +217,8 @@ module _ {D : Type 0} {listed places : List ℕ} (history : D → History) (stor
       each = λ pin reached entries keeps. record {
         pinned = keeps.pinned;
         since = subst (λ (r : Root). pin.generation ≤ r.generation) (sym leaves.still) keeps.since;
-        waits = λ k. keeps.waits (on k);
-        holds = λ k. map_at (store_of history p) (store_of history failed_now) pin.root reached entries (failed_page k) (keeps.holds (on k));
+        waits = λ k. keeps.waits (extends k);
+        holds = λ k. map_at (store_of history p) (store_of history failed_now) pin.root reached entries (failed_page k) (keeps.holds (extends k));
       };
     }
 
@@ -262,60 +262,61 @@ module _ {D : Type 0} {listed places : List ℕ} (history : D → History) (stor
         (λ r later some. omega (arith, keeps.since, later)) (retired_in final.turn) since_then))
 
     -- and what the turn made is written
-    passes : (sheet : Sheet) → is_of_tree sheet.content ≡ true → test sheet ≡ true
-    passes sheet whole =
+    passes : (model : PageModel) → is_of_tree model.content ≡ true → test model ≡ true
+    passes model whole =
         let pinned_now : is_pinned mid.pins version ≡ true =
         subst (λ (pins : List ℕ). is_pinned pins version ≡ true) (sym (all_pins version gone book))
         (pinned_since pin.generation version book.pins keeps.pinned keeps.since) in
-        (λ i. whole i && (is_in_use mid.states sheet.page || is_pinned mid.pins version))
-        ∙ or_true (is_in_use mid.states sheet.page) (is_pinned mid.pins version) pinned_now
+        (λ i. whole i && (is_in_use mid.states model.page || is_pinned mid.pins version))
+        ∙ or_true (is_in_use mid.states model.page) (is_pinned mid.pins version) pinned_now
 
     module _ (new : Store D) (after : PageCache) (root : ℕ)
         (leaves : LeavesPages history written_all root (first_page (written pages named)) (length named) (Ok tt) store new)
-        (content : AllByRecursion (λ (m : Sheet). IsContent m.content) those) (keeps_all : KeepsAll written_all cache after)
-        (on : KeepsWord (disk_history history new) → KeepsWord (disk_history history store)) (k : KeepsWord (disk_history history new)) where
+        (content : AllByRecursion (λ (m : PageModel). IsContent m.content) those) (keeps_all : KeepsAll written_all cache after)
+        (extends : KeepsWord (disk_history history new) → KeepsWord (disk_history history store)) (k : KeepsWord (disk_history history new)) where
       abbrev done_now : State D
       done_now = record { store = new; made = []; retired = []; book = committed last final }
 
-      sheets_so : AllByRecursion (IsSheet (version + 1)) written_all
-      sheets_so = all_sheets history store cache made gone book so pages named final list content
+      models_so : AllByRecursion (IsPageModel (version + 1)) written_all
+      models_so = all_models history store cache made gone book so pages named final list content
 
       abbrev list_first : ℕ
       list_first = first_page (written pages named)
 
-      abbrev behind : Root → ℕ → Result Sheet PageFault
-      behind r n = sheet_at (reads (now (disk_history history new))) r n
+      abbrev behind : Root → ℕ → Result PageModel PageFault
+      behind r n = model_at (reads (now (disk_history history new))) r n
 
       abbrev next : Root
       next = next_root (durable_root store) written_all root list_first (length named)
 
       root_now : durable_root new ≡ next
-      root_now = next_is history store cache so.cached written_all lies news new after root list_first (length named) leaves sheets_so keeps_all on
+      root_now = next_is history store cache so.cached written_all lies news new after root list_first (length named) leaves models_so keeps_all extends
 
       done_page : (n : ℕ) → IsOfTree (store_of history p) n → Moves (store_of history p) (store_of history done_now) n
       done_page n whole content_now at =
-          let there : is_ok (sheets_of history p n) ≡ true = first_part (is_ok (sheets_of history p n)) _ at.live in
-          let not_free_now : is_free book.states n ≡ false = last_part (is_ok (sheets_of history p n)) (is_free book.states n) at.live in
+          let there : is_ok (models_of history p n) ≡ true = first_part (is_ok (models_of history p n)) _ at.live in
+          let not_free_now : is_free book.states n ≡ false = last_part (is_ok (models_of history p n)) (is_free book.states n) at.live in
           elim (member made n) [
             | inl none ↦
-                let found : IsFound (sheets_of history p n) content_now = found_at (sheets_of history p) n content_now there at.holds in
-                let was : disk n ≡ Ok found.sheet = sym (made_none made n (disk n) none) ∙ found.is in
-                let is : behind (durable_root new) n ≡ Ok found.sheet =
+                let found : IsFound (models_of history p n) content_now = found_at (models_of history p) n content_now there at.holds in
+                let was : disk n ≡ Ok found.model = sym (made_none made n (disk n) none) ∙ found.is in
+                let is : behind (durable_root new) n ≡ Ok found.model =
                 ap (λ (r : Root). behind r n) root_now
-                ∙ still_there history store cache so.cached written_all lies news new after root list_first (length named) leaves sheets_so keeps_all on k n
-                found.sheet was (none_written n not_free_now none) in
+                ∙ still_there history store cache so.cached written_all lies news new after root list_first (length named) leaves models_so keeps_all extends
+                k n
+                found.model was (none_written n not_free_now none) in
                 record { number = at.number; live = (λ i. is_ok (is i) && not (free_after n not_free_now i)); holds = ap content_in is ∙ found.holds }
             | inr r ↦
-                let was : sheets_of history p n ≡ Ok r.sheet = r.there (disk n) in
-                let fits : is_of_tree r.sheet.content ≡ true = ap (λ (found : Result Sheet PageFault). is_of_tree (content_in found)) (sym was) ∙ whole in
-                let among : IsAmong r.sheet those =
-                among_filter test (pages_at made places) r.sheet (passes r.sheet fits) (in_order made places so.order r.sheet r.among) in
+                let was : models_of history p n ≡ Ok r.model = r.there (disk n) in
+                let fits : is_of_tree r.model.content ≡ true = ap (λ (found : Result PageModel PageFault). is_of_tree (content_in found)) (sym was) ∙ whole in
+                let among : IsAmong r.model those =
+                among_filter test (pages_at made places) r.model (passes r.model fits) (in_order made places so.order r.model r.among) in
                 let is_next =
-                all_among (λ (m : Sheet). behind next m.page ≡ Ok m) written_all r.sheet
-                (each_there history store cache so.cached written_all lies news new after root list_first (length named) leaves sheets_so keeps_all on k)
-                (among_first those sheets r.sheet among) in
-                let is : behind (durable_root new) n ≡ Ok r.sheet =
-                subst (λ (m : ℕ). behind (durable_root new) m ≡ Ok r.sheet) r.is (ap (λ (x : Root). behind x r.sheet.page) root_now ∙ is_next) in
+                all_among (λ (m : PageModel). behind next m.page ≡ Ok m) written_all r.model
+                (each_there history store cache so.cached written_all lies news new after root list_first (length named) leaves models_so keeps_all extends k)
+                (among_first those models r.model among) in
+                let is : behind (durable_root new) n ≡ Ok r.model =
+                subst (λ (m : ℕ). behind (durable_root new) m ≡ Ok r.model) r.is (ap (λ (x : Root). behind x r.model.page) root_now ∙ is_next) in
                 record {
                   number = at.number;
                   live = (λ i. is_ok (is i) && not (free_after n not_free_now i));
@@ -327,19 +328,19 @@ module _ {D : Type 0} {listed places : List ℕ} (history : D → History) (stor
       done_map =
           map_moved (store_of history p) (store_of history done_now) pin.root reached entries
           (each_map (IsOfTree (store_of history p)) (Moves (store_of history p) (store_of history done_now)) done_page reached
-          (map_pages (store_of history p) pin.root reached entries (keeps.holds (on k)))) (keeps.holds (on k))
+          (map_pages (store_of history p) pin.root reached entries (keeps.holds (extends k)))) (keeps.holds (extends k))
 
   pub done_keeps : (new : Store D) (after : PageCache) (root : ℕ)
       → LeavesPages history written_all root (first_page (written pages named)) (length named) (Ok tt) store new
-      → AllByRecursion (λ (m : Sheet). IsContent m.content) those → KeepsAll written_all cache after
+      → AllByRecursion (λ (m : PageModel). IsContent m.content) those → KeepsAll written_all cache after
       → (KeepsWord (disk_history history new) → KeepsWord (disk_history history store)) → version ≤ (durable_root new).generation → (last : ℕ)
       → KeepsVersions history p (record { store = new; made = []; retired = []; book = committed last final })
-  done_keeps new after root leaves content keeps_all on later last = record {
+  done_keeps new after root leaves content keeps_all extends later last = record {
     pins = pins_same;
     each = λ pin reached entries keeps. record {
       pinned = subst (λ (pins : List ℕ). 1 ≤ times pin.generation pins) (sym pins_same) keeps.pinned;
       since = omega (arith, keeps.since, later);
-      waits = λ k. waits_after pin reached entries keeps last (keeps.waits (on k));
-      holds = done_map pin reached entries keeps last new after root leaves content keeps_all on;
+      waits = λ k. waits_after pin reached entries keeps last (keeps.waits (extends k));
+      holds = done_map pin reached entries keeps last new after root leaves content keeps_all extends;
     };
   }

@@ -1,7 +1,7 @@
 -- How many pages a file may have stays.
 use Rattle.std.proofs.Common.{◌≡◌, ℕ, ◌∷◌, List, [], ◌++◌, length, drop, sym, ◌∙◌, ap, arith}
 use Rattle.std.proofs.lemmas.List.{length-set}
-use Rattle.page.specs.Format.{Sheet}
+use Rattle.page.specs.Format.{PageModel}
 use Rattle.page.specs.History.{History}
 use Rattle.page.specs.declared.page_cache.PageCache.{PageCache}
 use Rattle.freelist.specs.Book.{Book, committed, rewind, undone, unpinned, without}
@@ -41,13 +41,13 @@ pub unpinned_limit : (version : ℕ) (b : Book) → length (unpinned version b).
 unpinned_limit version b = length_freed (without version b.pins) b.waiting b.states
 
 -- where no commit was planned
-pub unplanned_limit : (root : Root) (made : List Sheet) (pages : List ℕ) (fault : CommitFault) (old new : Book) → PlanFails root made pages fault old new
+pub unplanned_limit : (root : Root) (made : List PageModel) (pages : List ℕ) (fault : CommitFault) (old new : Book) → PlanFails root made pages fault old new
     → length new.states ≡ length old.states
 unplanned_limit root made pages faults.Memory old new same = ap (λ (b : Book). length b.states) same
 unplanned_limit root made pages faults.Full old new fails = ap (λ (b : Book). length b.states) fails.1
 unplanned_limit root made pages faults.Device old new none = absurd none
 
-module _ {D : Type 0} {listed places : List ℕ} (history : D → History) (store : Store D) (cache : PageCache) (made : List Sheet) (retired : List ℕ)
+module _ {D : Type 0} {listed places : List ℕ} (history : D → History) (store : Store D) (cache : PageCache) (made : List PageModel) (retired : List ℕ)
     (book : Book) (so : IsKept history store cache made book listed places) where
   pub within_limit : IsWithinLimit {D = D} (record { store = store; made = made; retired = retired; book = book })
   within_limit = record { file = omega (arith, so.wide); made = λ n some. made_below made book so.booked n some }

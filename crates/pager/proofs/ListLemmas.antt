@@ -5,7 +5,7 @@ use Rattle.std.specs.Prelude.{◌==◌, if◌then◌else◌, Result, Ok, is_ok}
 use Rattle.std.specs.List.{AllByRecursion}
 use Rattle.std.proofs.lemmas.Bool.Decides.{nat_tests}
 use Rattle.std.proofs.lemmas.List.{take_more}
-use Rattle.page.specs.Format.{Sheet}
+use Rattle.page.specs.Format.{PageModel}
 use Rattle.page.specs.declared.page_fault.PageFault.{PageFault}
 use Rattle.roots.specs.Turn.{LieBehind, made_or}
 
@@ -39,37 +39,38 @@ all_joined P (x ∷ xs) ys front back = (front.0, all_joined P xs ys front.1 bac
 
 -- ---- the page of a number
 
-pub made_here : (m : Sheet) (ms : List Sheet) (n : ℕ) (other : Result Sheet PageFault) → m.page ≡ n → made_or (m ∷ ms) n other ≡ Ok m
+pub made_here : (m : PageModel) (ms : List PageModel) (n : ℕ) (other : Result PageModel PageFault) → m.page ≡ n → made_or (m ∷ ms) n other ≡ Ok m
 made_here m ms n other is =
     let test : (m.page == n) ≡ true = grind (arith, nat_tests, is) in
     ap (λ (b : Bool). if b then Ok m else made_or ms n other) test
 
-pub made_none : (made : List Sheet) (n : ℕ) (other : Result Sheet PageFault) → AllByRecursion (λ (m : Sheet). m.page ≢ n) made → made_or made n other ≡ other
+pub made_none : (made : List PageModel) (n : ℕ) (other : Result PageModel PageFault) → AllByRecursion (λ (m : PageModel). m.page ≢ n) made
+    → made_or made n other ≡ other
 made_none [] n other ne = refl
 made_none (m ∷ ms) n other ne =
     let test : (m.page == n) ≡ false = grind (arith, nat_tests, ne.0) in
     ap (λ (b : Bool). if b then Ok m else made_or ms n other) test ∙ made_none ms n other ne.1
 
 -- one more behind them
-pub made_last : (made : List Sheet) (sheet : Sheet) (other : Result Sheet PageFault) → AllByRecursion (λ (m : Sheet). m.page ≢ sheet.page) made
-    → made_or (made ++ sheet ∷ []) sheet.page other ≡ Ok sheet
-made_last [] sheet other ne = made_here sheet [] sheet.page other refl
-made_last (m ∷ ms) sheet other ne =
-    let test : (m.page == sheet.page) ≡ false = grind (arith, nat_tests, ne.0) in
-    ap (λ (b : Bool). if b then Ok m else made_or (ms ++ sheet ∷ []) sheet.page other) test ∙ made_last ms sheet other ne.1
+pub made_last : (made : List PageModel) (model : PageModel) (other : Result PageModel PageFault) → AllByRecursion (λ (m : PageModel). m.page ≢ model.page) made
+    → made_or (made ++ model ∷ []) model.page other ≡ Ok model
+made_last [] model other ne = made_here model [] model.page other refl
+made_last (m ∷ ms) model other ne =
+    let test : (m.page == model.page) ≡ false = grind (arith, nat_tests, ne.0) in
+    ap (λ (b : Bool). if b then Ok m else made_or (ms ++ model ∷ []) model.page other) test ∙ made_last ms model other ne.1
 
-pub made_others : (made : List Sheet) (sheet : Sheet) (n : ℕ) (other : Result Sheet PageFault) → n ≢ sheet.page
-    → made_or (made ++ sheet ∷ []) n other ≡ made_or made n other
-made_others [] sheet n other ne =
-    let test : (sheet.page == n) ≡ false = grind (arith, nat_tests, ne) in
-    ap (λ (b : Bool). if b then Ok sheet else other) test
-made_others (m ∷ ms) sheet n other ne = ap (λ (r : Result Sheet PageFault). if m.page == n then Ok m else r) (made_others ms sheet n other ne)
+pub made_others : (made : List PageModel) (model : PageModel) (n : ℕ) (other : Result PageModel PageFault) → n ≢ model.page
+    → made_or (made ++ model ∷ []) n other ≡ made_or made n other
+made_others [] model n other ne =
+    let test : (model.page == n) ≡ false = grind (arith, nat_tests, ne) in
+    ap (λ (b : Bool). if b then Ok model else other) test
+made_others (m ∷ ms) model n other ne = ap (λ (r : Result PageModel PageFault). if m.page == n then Ok m else r) (made_others ms model n other ne)
 
-pub made_joined : (xs ys : List Sheet) (n : ℕ) (other : Result Sheet PageFault) → made_or (xs ++ ys) n other ≡ made_or xs n (made_or ys n other)
+pub made_joined : (xs ys : List PageModel) (n : ℕ) (other : Result PageModel PageFault) → made_or (xs ++ ys) n other ≡ made_or xs n (made_or ys n other)
 made_joined [] ys n other = refl
-made_joined (x ∷ xs) ys n other = ap (λ (r : Result Sheet PageFault). if x.page == n then Ok x else r) (made_joined xs ys n other)
+made_joined (x ∷ xs) ys n other = ap (λ (r : Result PageModel PageFault). if x.page == n then Ok x else r) (made_joined xs ys n other)
 
-pub lie_higher : (low high : ℕ) (those : List Sheet) → LieBehind low those → AllByRecursion (λ (y : Sheet). high < y.page) those → LieBehind high those
+pub lie_higher : (low high : ℕ) (those : List PageModel) → LieBehind low those → AllByRecursion (λ (y : PageModel). high < y.page) those → LieBehind high those
 lie_higher low high [] lies above = tt
 lie_higher low high (y ∷ those) lies above = (above.0, lies.1)
 

@@ -7,19 +7,19 @@ use Rattle.std.specs.List.{AllByRecursion}
 use Rattle.std.proofs.lemmas.Bool.{cases_Bool, cases_eq, cases_lt}
 use Rattle.std.proofs.lemmas.Bool.Decides.{nat_tests}
 use Rattle.std.proofs.lemmas.List.{get_or-set_other, get_or-set_same, length-append, length-set}
-use Rattle.page.specs.Format.{Sheet}
+use Rattle.page.specs.Format.{PageModel}
 use Rattle.page.specs.declared.page_fault.PageFault.{PageFault}
 use Rattle.btree.specs.Keys.{times}
 use Rattle.btree.specs.Store.{flag}
 use Rattle.freelist.specs.Book.{Book, is_free, is_free_state, is_in_use, is_used_state, retired, taken}
-use Rattle.freelist.specs.FreeList.{Holds, written}
+use Rattle.freelist.specs.FreeList.{HoldsList, written}
 use Rattle.freelist.specs.ListWriting.{TakesAll, count_with, is_unused, unused_below}
 use Rattle.freelist.specs.declared.states.PageState.{PageState}
 use Rattle.freelist.specs.declared.states.PageState.TheVariants as states
 use Rattle.freelist.specs.declared.turns.Change.TheVariants as changes
 use Rattle.freelist.proofs.Rewinding.{below, free_is, used_is}
-use Rattle.roots.specs.Image.{list_in, listed_sheet}
-use Rattle.roots.specs.Listed.{list_sheets}
+use Rattle.roots.specs.Image.{list_in, listed_model}
+use Rattle.roots.specs.Listed.{list_models}
 use Rattle.roots.specs.Turn.{LieBehind, end_behind}
 use Rattle.roots.proofs.MadeLemmas.{end_grows}
 use Rattle.pager.specs.Order.{merged}
@@ -87,7 +87,7 @@ all_free (p ∷ pages) b final takes n some = elim (cases_eq n p) [
 
 -- they ascend, and so do the pages of the list
 pub list_rises : (last generation : ℕ) (pages named : List ℕ) (b final : Book) → TakesAll pages b final
-    → ((n : ℕ) → is_free b.states n ≡ true → last < n) → LieBehind last (list_sheets generation (written pages named))
+    → ((n : ℕ) → is_free b.states n ≡ true → last < n) → LieBehind last (list_models generation (written pages named))
 list_rises last generation [] named b final takes above = tt
 list_rises last generation (p ∷ pages) named b final takes above =
     (above p (was_free b p takes.0), list_rises p generation pages (drop 1019 named) (taken p b) final takes.1 later)
@@ -125,7 +125,7 @@ pub record IsAsWide (old new : Book) : Type 0 where
   pub pins : new.pins ≡ old.pins
   pub waiting : new.waiting ≡ old.waiting
   pub long : length new.states ≡ length old.states
-  pub full : new.full_takes ≡ old.full_takes
+  pub full : new.failed_allocations ≡ old.failed_allocations
   pub longer : length old.turn ≤ length new.turn
 
 pub as_wide : (pages : List ℕ) (b final : Book) → TakesAll pages b final → IsAsWide b final
@@ -133,7 +133,7 @@ as_wide [] b final same = record {
   pins = ap (λ (c : Book). c.pins) same;
   waiting = ap (λ (c : Book). c.waiting) same;
   long = ap (λ (c : Book). length c.states) same;
-  full = ap (λ (c : Book). c.full_takes) same;
+  full = ap (λ (c : Book). c.failed_allocations) same;
   longer = omega (arith, ap (λ (c : Book). length c.turn) same);
 }
 as_wide (p ∷ pages) b final takes =
@@ -148,12 +148,12 @@ as_wide (p ∷ pages) b final takes =
 
 -- ---- the pages of the list, as they are written
 
-pub sheets_of : (Q : Sheet → Type 0) (generation : ℕ) (pages named : List ℕ) → ((m : Sheet) → m.generation ≡ generation → 1 ≤ times m.page pages → Q m)
-    → AllByRecursion Q (list_sheets generation (written pages named))
-sheets_of Q generation [] named there = tt
-sheets_of Q generation (p ∷ pages) named there = (
+pub models_of : (Q : PageModel → Type 0) (generation : ℕ) (pages named : List ℕ) → ((m : PageModel) → m.generation ≡ generation → 1 ≤ times m.page pages → Q m)
+    → AllByRecursion Q (list_models generation (written pages named))
+models_of Q generation [] named there = tt
+models_of Q generation (p ∷ pages) named there = (
   there _ refl (omega (arith, one_time p p pages refl)),
-  sheets_of Q generation pages (drop 1019 named) (λ m born some. there m born (omega (arith, some, more_times m.page p pages))),
+  models_of Q generation pages (drop 1019 named) (λ m born some. there m born (omega (arith, some, more_times m.page p pages))),
 )
 
 -- a file has no more pages than the book
@@ -172,18 +172,18 @@ few_unused (suc count) pages = elim (cases_Bool (is_unused pages count)) [
 ]
 
 -- the file ends behind them
-count_list : (most end last generation : ℕ) (pages named : List ℕ) → end ≤ last + 1 → LieBehind last (list_sheets generation (written pages named))
-    → max most (end_behind end (list_sheets generation (written pages named))) ≡ count_with (max most end) pages
+count_list : (most end last generation : ℕ) (pages named : List ℕ) → end ≤ last + 1 → LieBehind last (list_models generation (written pages named))
+    → max most (end_behind end (list_models generation (written pages named))) ≡ count_with (max most end) pages
 count_list most end last generation [] named le lie = refl
 count_list most end last generation (p ∷ pages) named le lie =
     let same : max most (p + 1) ≡ max (max most end) (p + 1) = omega (arith, le, lie.0) in
     count_list most (p + 1) p generation pages (drop 1019 named) (omega arith) lie.1 ∙ ap (λ (n : ℕ). count_with n pages) same
 
-pub count_all : (most generation : ℕ) (xs : List Sheet) (pages named : List ℕ)
-    → let ys = list_sheets generation (written pages named) in LieBehind 0 xs → LieBehind 0 ys → LieBehind 0 (merged xs ys)
+pub count_all : (most generation : ℕ) (xs : List PageModel) (pages named : List ℕ)
+    → let ys = list_models generation (written pages named) in LieBehind 0 xs → LieBehind 0 ys → LieBehind 0 (merged xs ys)
     → max most (end_behind 1 (merged xs ys)) ≡ count_with (max most (end_behind 1 xs)) pages
 count_all most generation xs pages named lie lies both =
-    let ys = list_sheets generation (written pages named) in
+    let ys = list_models generation (written pages named) in
     let grown : 1 ≤ end_behind 1 xs = end_grows xs 0 1 refl lie in
     let reached : max most (end_behind 1 (merged xs ys)) ≡ max (max most (end_behind 1 xs)) (end_behind 1 ys) =
     omega (arith, end_merged xs ys lie lies both) in
@@ -191,7 +191,7 @@ count_all most generation xs pages named lie lies both =
     reached ∙ count_list (max most (end_behind 1 xs)) 1 0 generation pages named (omega arith) lies ∙ ap (λ (n : ℕ). count_with n pages) same
 
 -- where each is there, they hold the list
-pub holds_listed : (sheets : ℕ → Result Sheet PageFault) (generation : ℕ) (pages named : List ℕ)
-    → AllByRecursion (λ (m : Sheet). sheets m.page ≡ Ok m) (list_sheets generation (written pages named)) → Holds (list_in sheets) (written pages named)
-holds_listed sheets generation [] named there = tt
-holds_listed sheets generation (p ∷ pages) named there = (ap listed_sheet there.0, holds_listed sheets generation pages (drop 1019 named) there.1)
+pub holds_listed : (models : ℕ → Result PageModel PageFault) (generation : ℕ) (pages named : List ℕ)
+    → AllByRecursion (λ (m : PageModel). models m.page ≡ Ok m) (list_models generation (written pages named)) → HoldsList (list_in models) (written pages named)
+holds_listed models generation [] named there = tt
+holds_listed models generation (p ∷ pages) named there = (ap listed_model there.0, holds_listed models generation pages (drop 1019 named) there.1)

@@ -6,7 +6,7 @@ use Rattle.std.specs.Prelude.{Ok}
 use Rattle.std.proofs.lemmas.Bool.{cases_eq}
 use Rattle.std.proofs.lemmas.List.{get_or-set_other, get_or-set_same, length-replicate, length-set}
 use Rattle.page.specs.Cache.{kept}
-use Rattle.page.specs.Format.{Sheet}
+use Rattle.page.specs.Format.{PageModel}
 use Rattle.page.specs.History.{History, Sector, KeepsWord, IsImage, now, reads}
 use Rattle.page.specs.Crash.{ReadsOnly}
 use Rattle.page.specs.declared.page_cache.PageCache.{PageCache}
@@ -21,13 +21,13 @@ use Rattle.freelist.specs.declared.states.PageState.TheVariants as states
 use Rattle.freelist.proofs.ListedBooks.{length-opened}
 use Rattle.roots.specs.declared.root.Root.{Root}
 use Rattle.roots.specs.declared.store.Store.{Store}
-use Rattle.roots.specs.Image.{HasList, HoldsMap, OpensAs, reached_by, sheet_at}
-use Rattle.roots.specs.Opening.{IsOpened as IsStoreOpened}
+use Rattle.roots.specs.Image.{HasList, HoldsMap, OpensAs, reached_by, model_at}
+use Rattle.roots.specs.Opening.{IsStoreOpened as IsStoreOpened}
 use Rattle.roots.specs.Store.{IsCommitted, disk_history, durable_root, failed_reads}
 use Rattle.roots.specs.Walk.{FindsFree}
 use Rattle.roots.proofs.CountLemmas.{reached_once, room_most}
 use Rattle.pager.specs.Kept.{AreListed, IsBookFor, IsKept}
-use Rattle.pager.specs.Opening.{IsOpened}
+use Rattle.pager.specs.Opening.{IsPagerOpened}
 use Rattle.pager.specs.Turn.{IsBegun}
 use Rattle.pager.proofs.BookLemmas.{no_time, one_time, others_of}
 use Rattle.pager.proofs.OrderLemmas.{order_none}
@@ -84,7 +84,7 @@ module _ {D : Type 0} (history : D → History) (disk : D) (mid new : Store D) (
     sound = finds.some.sound;
     turn = finds.some.turn;
     limit = omega (arith, finds.some.count, few, first.known.pages);
-    count = omega (arith, finds.some.full_takes);
+    count = omega (arith, finds.some.failed_allocations);
   }
 
   pub limit_opened : (asked : ℕ) → limit ≡ min asked 1048576 → length book.states ≡ max (min asked 1048576) (durable_root new).pages
@@ -94,7 +94,7 @@ module _ {D : Type 0} (history : D → History) (disk : D) (mid new : Store D) (
       most ∙ ap (λ (n : ℕ). max n (durable_root new).pages) is
 
   -- entries that the disk's root has when it is opened are committed in the store
-  committed_then : (live : List ℕ) (entries : List Entry) → HoldsMap (sheet_at (reads (now (history disk))) (durable_root mid)) (durable_root mid) live entries
+  committed_then : (live : List ℕ) (entries : List Entry) → HoldsMap (model_at (reads (now (history disk))) (durable_root mid)) (durable_root mid) live entries
       → IsCommitted history mid live entries
   committed_then live entries holds = first.committed live entries (λ _. holds)
 
@@ -105,16 +105,16 @@ module _ {D : Type 0} (history : D → History) (disk : D) (mid new : Store D) (
       of_same P (now (disk_history history new)) (now (disk_history history mid)) (durable_root new) (durable_root mid) (only.same k) finds.root holds
 
   reads_mid : KeepsWord (disk_history history new) → reads (now (disk_history history mid)) ≡ reads (now (history disk))
-  reads_mid k = reads_synced (now (history disk)) (now (disk_history history mid)) (first.only.syncs (only.on.kept k))
+  reads_mid k = reads_synced (now (history disk)) (now (disk_history history mid)) (first.only.syncs (only.extends.kept k))
 
   -- the pages beside the book are those of the root's list
   listed_opened : AreListed history new found.1.items
   listed_opened running k parts list = finds.listed k parts (list_then k (IsListIn parts) list)
 
-  pub kept_opened : (cache : PageCache) (made : List Sheet) (places : List ℕ) → made ≡ [] → places ≡ [] → ((n : ℕ) → kept cache n ≡ None)
+  pub kept_opened : (cache : PageCache) (made : List PageModel) (places : List ℕ) → made ≡ [] → places ≡ [] → ((n : ℕ) → kept cache n ≡ None)
       → IsKept history new cache made book found.1.items places
   kept_opened cache made places is empty none = subst (λ (ps : List ℕ). IsKept history new cache made book found.1.items ps) (sym empty)
-      (subst (λ (m : List Sheet). IsKept history new cache m book found.1.items []) (sym is) (record {
+      (subst (λ (m : List PageModel). IsKept history new cache m book found.1.items []) (sym is) (record {
         cached = λ k n found there. let never : Some found ≡ None = sym there ∙ none n in absurd cc;
         order = order_none;
         each = tt;
@@ -124,7 +124,7 @@ module _ {D : Type 0} (history : D → History) (disk : D) (mid new : Store D) (
       }))
 
   begins : (live : List ℕ) (entries : List Entry)
-      → (KeepsWord (disk_history history new) → HoldsMap (sheet_at (reads (now (history disk))) (durable_root new)) (durable_root new) live entries)
+      → (KeepsWord (disk_history history new) → HoldsMap (model_at (reads (now (history disk))) (durable_root new)) (durable_root new) live entries)
       → IsBegun history (record { store = new; made = []; retired = []; book = book }) live entries
   begins live entries holds = record {
     made = refl;
@@ -135,8 +135,8 @@ module _ {D : Type 0} (history : D → History) (disk : D) (mid new : Store D) (
         let root = durable_root mid in
         let image = reads (now (disk_history history mid)) in
         let reached = reached_by live parts in
-        let has_then : HasList (sheet_at image root) root live parts = list_then k (HasListIn live parts) has in
-        let tree = subst (λ (read : ℕ → List ℕ). HoldsMap (sheet_at read root) root live entries) (sym (reads_mid k)) (holds_then k) in
+        let has_then : HasList (model_at image root) root live parts = list_then k (HasListIn live parts) has in
+        let tree = subst (λ (read : ℕ → List ℕ). HoldsMap (model_at read root) root live entries) (sym (reads_mid k)) (holds_then k) in
         let is : book ≡ opened reached (max limit root.pages) root.generation =
         (finds.book k live entries (committed_then live entries (holds_then k)) parts has_then).0 in
         let once : AreOnce reached = λ n.
@@ -150,30 +150,31 @@ module _ {D : Type 0} (history : D → History) (disk : D) (mid new : Store D) (
         };
   }
     where
-      holds_then : KeepsWord (disk_history history new) → HoldsMap (sheet_at (reads (now (history disk))) (durable_root mid)) (durable_root mid) live entries
-      holds_then k = subst (λ (r : Root). HoldsMap (sheet_at (reads (now (history disk))) r) r live entries) finds.root (holds k)
+      holds_then : KeepsWord (disk_history history new) → HoldsMap (model_at (reads (now (history disk))) (durable_root mid)) (durable_root mid) live entries
+      holds_then k = subst (λ (r : Root). HoldsMap (model_at (reads (now (history disk))) r) r live entries) finds.root (holds k)
 
-  pub opened_so : (made : List Sheet) (retired : List ℕ) → made ≡ [] → retired ≡ []
+  pub opened_so : (made : List PageModel) (retired : List ℕ) → made ≡ [] → retired ≡ []
       → (KeepsWord (disk_history history new) → (disk_history history new).failures ≡ (disk_history history mid).failures)
-      → IsOpened history disk (record { store = new; made = made; retired = retired; book = book })
+      → IsPagerOpened history disk (record { store = new; made = made; retired = retired; book = book })
   opened_so made retired none empty clear =
       let h0 = history disk in
       let h1 = disk_history history mid in
       let h2 = disk_history history new in
-      subst (IsOpened history disk) (λ i. record { store = new; made = sym none i; retired = sym empty i; book = book }) (record {
+      subst (IsPagerOpened history disk) (λ i. record { store = new; made = sym none i; retired = sym empty i; book = book }) (record {
         running = finds.stopped ∙ first.running;
         made = refl;
         retired = refl;
         pins = finds.some.pins;
-        no_full_takes = finds.some.full_takes;
+        no_failed_allocations = finds.some.failed_allocations;
         no_failed_reads = unfailed;
-        on = goes_further h0 h1 h2 first.on only.on;
-        opens = λ k. subst (OpensAs (reads (now h0))) (sym finds.root) (first.opens (only.on.kept k));
+        extends = goes_further h0 h1 h2 first.extends only.extends;
+        opens = λ k. subst (OpensAs (reads (now h0))) (sym finds.root) (first.opens (only.extends.kept k));
         begun = begins;
-        alone = λ entries stands k image is. first.alone entries stands (only.on.kept k) image (subst (λ (s : ℕ → Sector). IsImage s image) (only.same k) is);
+        alone = λ entries stands k image is. first.alone entries stands (only.extends.kept k) image
+            (subst (λ (s : ℕ → Sector). IsImage s image) (only.same k) is);
         any_moment = λ readable.
-            leaves_further h0 h1 h2 (IsImage (now h0)) only.on (first.any_moment readable)
-            (λ k image left. leaves_now h0 h1 (IsImage (now h0)) first.on (first.any_moment readable) (only.on.kept k) image
+            leaves_further h0 h1 h2 (IsImage (now h0)) only.extends (first.any_moment readable)
+            (λ k image left. leaves_now h0 h1 (IsImage (now h0)) first.extends (first.any_moment readable) (only.extends.kept k) image
             (reads_moments h1 h2 only k image left));
       })
     where

@@ -7,9 +7,9 @@ use Rattle.std.proofs.lemmas.Bool.Decides.{nat_tests}
 use Rattle.std.proofs.lemmas.List.{get_or_default}
 use Rattle.page.specs.Cache.{kept}
 use Rattle.page.specs.Content.{IsContent, is_of_tree}
-use Rattle.page.specs.Format.{Sheet}
+use Rattle.page.specs.Format.{PageModel}
 use Rattle.page.specs.History.{History}
-use Rattle.page.specs.PageLaws.{IsSheet}
+use Rattle.page.specs.PageLaws.{IsPageModel}
 use Rattle.page.specs.declared.page_cache.PageCache.{PageCache}
 use Rattle.btree.specs.Keys.{times}
 use Rattle.btree.specs.Store.{flag}
@@ -24,7 +24,7 @@ use Rattle.freelist.proofs.SoundBooks.{stays_sound}
 use Rattle.freelist.proofs.UnusedPages.{times_unused}
 use Rattle.roots.specs.declared.root.Root.{Root}
 use Rattle.roots.specs.declared.store.Store.{Store}
-use Rattle.roots.specs.Listed.{list_sheets}
+use Rattle.roots.specs.Listed.{list_models}
 use Rattle.roots.specs.Store.{durable_root}
 use Rattle.roots.specs.Turn.{LieBehind, numbers_of}
 use Rattle.roots.proofs.ListingLemmas.{all_pages, list_is_written}
@@ -37,12 +37,12 @@ use Rattle.pager.proofs.BookLemmas.{all_full, all_length, all_sound, committed_l
 use Rattle.pager.proofs.BookLemmas.{made_below, one_time}
 use Rattle.pager.proofs.ListLemmas.{all_both, all_weaker}
 use Rattle.pager.proofs.ListedLemmas.{IsAsWide, all_free, as_wide, count_all, count_within, few_unused, free_before, free_inside, free_unused}
-use Rattle.pager.proofs.ListedLemmas.{list_rises, sheets_of}
+use Rattle.pager.proofs.ListedLemmas.{list_rises, models_of}
 use Rattle.pager.proofs.MemberLemmas.{all_filter, each_counted, free_not_made, lie_filter}
 use Rattle.pager.proofs.MergeLemmas.{AreApart, all_merged, lie_merged}
 use Rattle.pager.proofs.OrderLemmas.{all_at}
 
-module _ {D : Type 0} {listed places : List ℕ} (history : D → History) (store : Store D) (cache : PageCache) (made : List Sheet) (retired : List ℕ)
+module _ {D : Type 0} {listed places : List ℕ} (history : D → History) (store : Store D) (cache : PageCache) (made : List PageModel) (retired : List ℕ)
     (book : Book) (so : IsKept history store cache made book listed places) where
   abbrev root : Root
   root = durable_root store
@@ -50,17 +50,17 @@ module _ {D : Type 0} {listed places : List ℕ} (history : D → History) (stor
   abbrev pub planned : Book
   planned = retired_all root.generation retired book
 
-  abbrev pub tree : List Sheet
+  abbrev pub tree : List PageModel
   tree = written_of root.generation planned (pages_at made places)
 
-  abbrev test : Sheet → Bool
-  test sheet = is_of_tree sheet.content && (is_in_use planned.states sheet.page || is_pinned planned.pins root.generation)
+  abbrev test : PageModel → Bool
+  test model = is_of_tree model.content && (is_in_use planned.states model.page || is_pinned planned.pins root.generation)
 
   tree_new : AllByRecursion (IsNew root.generation cache) tree
   tree_new = all_filter (IsNew root.generation cache) test (pages_at made places) (all_at (IsNew root.generation cache) made places so.order.inside so.each)
 
-  pub tree_inside : AllByRecursion (λ (m : Sheet). m.page < 1048576) tree
-  tree_inside = all_weaker (IsNew root.generation cache) (λ (m : Sheet). m.page < 1048576) (λ m one. one.inside) tree tree_new
+  pub tree_inside : AllByRecursion (λ (m : PageModel). m.page < 1048576) tree
+  tree_inside = all_weaker (IsNew root.generation cache) (λ (m : PageModel). m.page < 1048576) (λ m one. one.inside) tree tree_new
 
   pub planned_sound : IsSound planned
   planned_sound = all_sound root.generation retired book so.booked.sound
@@ -72,11 +72,11 @@ module _ {D : Type 0} {listed places : List ℕ} (history : D → History) (stor
     abbrev born : ℕ
     born = next_generation root
 
-    abbrev sheets : List Sheet
-    sheets = list_sheets born (written pages named)
+    abbrev models : List PageModel
+    models = list_models born (written pages named)
 
-    abbrev pub all : List Sheet
-    all = merged tree sheets
+    abbrev pub all : List PageModel
+    all = merged tree models
 
     abbrev count : ℕ
     count = count_with (pages_with root tree) pages
@@ -91,31 +91,31 @@ module _ {D : Type 0} {listed places : List ℕ} (history : D → History) (stor
     tree_lie : LieBehind 0 tree
     tree_lie = lie_filter 0 test (pages_at made places) so.order.ascending
 
-    sheets_lie : LieBehind 0 sheets
-    sheets_lie = list_rises 0 born pages named planned final list.takes (λ n free. (free_inside planned.states n free).0)
+    models_lie : LieBehind 0 models
+    models_lie = list_rises 0 born pages named planned final list.takes (λ n free. (free_inside planned.states n free).0)
 
     -- and no page of the turn is free
-    apart : AreApart tree sheets
+    apart : AreApart tree models
     apart =
-        sheets_of (λ (y : Sheet). AllByRecursion (λ (x : Sheet). x.page ≢ y.page) tree) born pages named
-        (λ m is some. all_filter (λ (x : Sheet). x.page ≢ m.page) test (pages_at made places)
-        (all_at (λ (x : Sheet). x.page ≢ m.page) made places so.order.inside
+        models_of (λ (y : PageModel). AllByRecursion (λ (x : PageModel). x.page ≢ y.page) tree) born pages named
+        (λ m is some. all_filter (λ (x : PageModel). x.page ≢ m.page) test (pages_at made places)
+        (all_at (λ (x : PageModel). x.page ≢ m.page) made places so.order.inside
         (free_not_made made book so.booked m.page (free_unused book.states m.page (free_then m.page some)))))
 
     pub all_lie : LieBehind 0 all
-    all_lie = lie_merged 0 tree sheets tree_lie sheets_lie apart
+    all_lie = lie_merged 0 tree models tree_lie models_lie apart
 
-    pub all_inside : AllByRecursion (λ (m : Sheet). m.page < 1048576) all
+    pub all_inside : AllByRecursion (λ (m : PageModel). m.page < 1048576) all
     all_inside =
-        all_merged (λ (m : Sheet). m.page < 1048576) tree sheets tree_inside
-        (sheets_of (λ (m : Sheet). m.page < 1048576) born pages named
+        all_merged (λ (m : PageModel). m.page < 1048576) tree models tree_inside
+        (models_of (λ (m : PageModel). m.page < 1048576) born pages named
         (λ m is some. omega (arith, (free_inside book.states m.page (free_then m.page some)).1, so.booked.limit)))
 
     -- where none of the list's pages is in the cache
     pub all_new : ((n : ℕ) → 1 ≤ times n pages → kept cache n ≡ None) → AllByRecursion (IsNew root.generation cache) all
     all_new gone =
-        all_merged (IsNew root.generation cache) tree sheets tree_new
-        (sheets_of (IsNew root.generation cache) born pages named (λ m is some. record {
+        all_merged (IsNew root.generation cache) tree models tree_new
+        (models_of (IsNew root.generation cache) born pages named (λ m is some. record {
           inside = omega (arith, (free_inside book.states m.page (free_then m.page some)).1, so.booked.limit);
           some = omega (arith, is);
           small = omega (arith, is);
@@ -125,14 +125,14 @@ module _ {D : Type 0} {listed places : List ℕ} (history : D → History) (stor
 
     -- the file has so many pages then
     pub count_is : pages_with root all ≡ count
-    count_is = count_all root.pages born tree pages named tree_lie sheets_lie all_lie
+    count_is = count_all root.pages born tree pages named tree_lie models_lie all_lie
 
     pub fits : count ≤ length planned.states
     fits =
-        let each : AllByRecursion (λ (m : Sheet). m.page < length planned.states) tree =
-        all_filter (λ (m : Sheet). m.page < length planned.states) test (pages_at made places)
-        (all_at (λ (m : Sheet). m.page < length planned.states) made places so.order.inside
-        (all_weaker (λ (m : Sheet). 1 ≤ times m.page (numbers_of made)) (λ (m : Sheet). m.page < length planned.states)
+        let each : AllByRecursion (λ (m : PageModel). m.page < length planned.states) tree =
+        all_filter (λ (m : PageModel). m.page < length planned.states) test (pages_at made places)
+        (all_at (λ (m : PageModel). m.page < length planned.states) made places so.order.inside
+        (all_weaker (λ (m : PageModel). 1 ≤ times m.page (numbers_of made)) (λ (m : PageModel). m.page < length planned.states)
         (λ m some. omega (arith, planned_long, made_below made book so.booked m.page some)) made (each_counted made))) in
         count_within (length planned.states) (pages_with root tree) pages
         (omega (arith, so.wide, planned_long, end_most (length planned.states) tree 1 (omega (arith, so.wide, planned_long)) each))
@@ -144,11 +144,11 @@ module _ {D : Type 0} {listed places : List ℕ} (history : D → History) (stor
     pub named_few : length named ≤ 1048576
     named_few = omega (arith, ap length list.names, few_unused count final.states, few)
 
-    pub all_sheets : AllByRecursion (λ (m : Sheet). IsContent m.content) tree → AllByRecursion (IsSheet (root.generation + 1)) all
-    all_sheets content =
+    pub all_models : AllByRecursion (λ (m : PageModel). IsContent m.content) tree → AllByRecursion (IsPageModel (root.generation + 1)) all
+    all_models content =
         let each_once : AreOnceBelow count (pages ++ named) = once (pages_with root tree) pages named planned final list in
-        all_merged (IsSheet (root.generation + 1)) tree sheets
-        (all_both (IsNew root.generation cache) (λ (m : Sheet). IsContent m.content) (IsSheet (root.generation + 1))
+        all_merged (IsPageModel (root.generation + 1)) tree models
+        (all_both (IsNew root.generation cache) (λ (m : PageModel). IsContent m.content) (IsPageModel (root.generation + 1))
         (λ m one holds. record { page = omega (arith, one.inside); some = one.some; small = one.small; until = one.until; content = holds }) tree tree_new
         content)
         (list_is_written (root.generation + 1) born count (omega arith) (omega arith) (omega arith) few pages named

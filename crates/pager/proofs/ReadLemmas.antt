@@ -2,7 +2,7 @@
 use Rattle.std.proofs.Common.{◌≡◌, ℕ, List, Some, refl, sym, ◌∙◌, ap, subst, inl, inr, arith}
 use Rattle.std.specs.Prelude.{Result, Ok, Err}
 use Rattle.page.specs.Cache.{kept}
-use Rattle.page.specs.Format.{Sheet}
+use Rattle.page.specs.Format.{PageModel}
 use Rattle.page.specs.History.{History, KeepsWord, Sector, now, reads}
 use Rattle.page.specs.declared.page_fault.PageFault.{PageFault}
 use Rattle.page.specs.declared.page_cache.PageCache.{PageCache}
@@ -14,7 +14,7 @@ use Rattle.roots.specs.declared.opening.OpenFault.{OpenFault}
 use Rattle.roots.specs.declared.opening.OpenFault.TheVariants as opens
 use Rattle.roots.specs.declared.root.Root.{Root}
 use Rattle.roots.specs.declared.store.Store.{Store}
-use Rattle.roots.specs.Image.{HasList, list_in, sheet_at}
+use Rattle.roots.specs.Image.{HasList, list_in, model_at}
 use Rattle.roots.specs.Store.{disk_history, durable_root}
 use Rattle.roots.specs.Walk.{HasCause}
 use Rattle.pager.specs.Calls.{HasReadCause, Keeps, OnlyRead, ReadsPage, tree_fault}
@@ -41,35 +41,35 @@ of_same P s t a b same is holds = subst (P t) is (subst (λ (u : ℕ → Sector)
 
 -- the list of free pages that a root names in these sectors
 abbrev pub IsListIn : List Part → (ℕ → Sector) → Root → Type 0
-IsListIn parts sectors root = IsFreeList (list_in (sheet_at (reads sectors) root)) root.pages root.free_list root.free_count parts
+IsListIn parts sectors root = IsFreeList (list_in (model_at (reads sectors) root)) root.pages root.free_list root.free_count parts
 
 -- which fits the tree that reaches these pages
 abbrev pub HasListIn : List ℕ → List Part → (ℕ → Sector) → Root → Type 0
-HasListIn live parts sectors root = HasList (sheet_at (reads sectors) root) root live parts
+HasListIn live parts sectors root = HasList (model_at (reads sectors) root) root live parts
 
-abbrev pub sheet_in : {D : Type 0} → (D → History) → Store D → ℕ → Result Sheet PageFault
-sheet_in history store n = sheet_at (reads (now (disk_history history store))) (durable_root store) n
+abbrev pub model_in : {D : Type 0} → (D → History) → Store D → ℕ → Result PageModel PageFault
+model_in history store n = model_at (reads (now (disk_history history store))) (durable_root store) n
 
 module _ {D : Type 0} (history : D → History) (old new : Store D) (only : OnlyRead history old new) where
   -- the disk holds what it held
-  pub still_there : KeepsWord (disk_history history new) → (n : ℕ) → sheet_in history new n ≡ sheet_in history old n
+  pub still_there : KeepsWord (disk_history history new) → (n : ℕ) → model_in history new n ≡ model_in history old n
   still_there k n =
-      (λ i. sheet_at (reads (only.reads.same k i)) (durable_root new) n)
-      ∙ ap (λ (root : Root). sheet_at (reads (now (disk_history history old))) root n) only.root
+      (λ i. model_at (reads (only.reads.same k i)) (durable_root new) n)
+      ∙ ap (λ (root : Root). model_at (reads (now (disk_history history old))) root n) only.root
 
-  pub still_agrees : (before after : PageCache) → ((n : ℕ) (found : Sheet) → kept after n ≡ Some found → kept before n ≡ Some found)
+  pub still_agrees : (before after : PageCache) → ((n : ℕ) (found : PageModel) → kept after n ≡ Some found → kept before n ≡ Some found)
       → Agrees history old before → Agrees history new after
-  still_agrees before after less agrees k n found is = still_there k n ∙ agrees (only.reads.on.kept k) n found (less n found is)
+  still_agrees before after less agrees k n found is = still_there k n ∙ agrees (only.reads.extends.kept k) n found (less n found is)
 
   pub still_listed : (listed : List ℕ) → AreListed history old listed → AreListed history new listed
   still_listed listed are running k parts list =
-      are (sym only.stopped ∙ running) (only.reads.on.kept k) parts
+      are (sym only.stopped ∙ running) (only.reads.extends.kept k) parts
       (of_same (IsListIn parts) (now (disk_history history new)) (now (disk_history history old)) (durable_root new) (durable_root old) (only.reads.same k)
       only.root list)
 
   -- no page was read
   pub read_failed : (page : ℕ) (fault : TreeFault) (before after : PageCache) → ((n : ℕ) → kept after n ≡ kept before n)
-      → (KeepsWord (disk_history history new) → (found : Sheet) → sheet_in history old page ≡ Ok found
+      → (KeepsWord (disk_history history new) → (found : PageModel) → model_in history old page ≡ Ok found
       → HasReadCause (disk_history history old) (disk_history history new) fault)
       → ReadsPage history page (Err fault) old new before after
   read_failed page fault before after same cause = record {
@@ -81,15 +81,15 @@ module _ {D : Type 0} (history : D → History) (old new : Store D) (only : Only
   }
 
   -- a page was read, and is kept
-  pub read_done : (page : ℕ) (sheet : Sheet) (before mid after : PageCache) → ((n : ℕ) → kept mid n ≡ kept before n) → Keeps page sheet mid after
-      → (KeepsWord (disk_history history new) → sheet_in history old page ≡ Ok sheet) → ReadsPage history page (Ok sheet) old new before after
-  read_done page sheet before mid after same keeps is = record {
+  pub read_done : (page : ℕ) (model : PageModel) (before mid after : PageCache) → ((n : ℕ) → kept mid n ≡ kept before n) → Keeps page model mid after
+      → (KeepsWord (disk_history history new) → model_in history old page ≡ Ok model) → ReadsPage history page (Ok model) old new before after
+  read_done page model before mid after same keeps is = record {
     only = only;
     value = λ agrees k. is k;
     cause = λ k found there. tt;
     agrees = λ agrees k n found there. elim (keeps n found there) [
-      | inl earlier ↦ still_there k n ∙ agrees (only.reads.on.kept k) n found (sym (same n) ∙ earlier)
-      | inr (at, named) ↦ still_there k n ∙ ap (sheet_in history old) at ∙ is k ∙ ap Ok (sym named)
+      | inl earlier ↦ still_there k n ∙ agrees (only.reads.extends.kept k) n found (sym (same n) ∙ earlier)
+      | inr (at, named) ↦ still_there k n ∙ ap (model_in history old) at ∙ is k ∙ ap Ok (sym named)
     ];
     others = λ n found ne there. elim (keeps n found there) [
       | inl earlier ↦ sym (same n) ∙ earlier
@@ -98,22 +98,23 @@ module _ {D : Type 0} (history : D → History) (old new : Store D) (only : Only
   }
 
 -- it was kept
-pub found_kept : {D : Type 0} (history : D → History) (store : Store D) (page : ℕ) (sheet : Sheet) (before after : PageCache) → kept before page ≡ Some sheet
-    → ((n : ℕ) → kept after n ≡ kept before n) → ReadsPage history page (Ok sheet) store store before after
-found_kept history store page sheet before after found same = record {
+pub found_kept : {D : Type 0} (history : D → History) (store : Store D) (page : ℕ) (model : PageModel) (before after : PageCache)
+    → kept before page ≡ Some model
+    → ((n : ℕ) → kept after n ≡ kept before n) → ReadsPage history page (Ok model) store store before after
+found_kept history store page model before after found same = record {
   only = nothing_read history store;
-  value = λ agrees k. agrees k page sheet found;
+  value = λ agrees k. agrees k page model found;
   cause = λ k found there. tt;
   agrees = λ agrees k n found there. agrees k n found (sym (same n) ∙ there);
   others = λ n found ne there. sym (same n) ∙ there;
 }
 
 -- a page that is there isn't refused for what its bytes are
-pub read_cause : (old new : History) (fault : OpenFault) (found : Result Sheet PageFault) (sheet : Sheet) → HasCause old new fault
-    → (fault ≡ opens.Damaged → (other : Sheet) → found ≡ Ok other → ⊥)
-    → KeepsWord new → found ≡ Ok sheet → HasReadCause old new (tree_fault fault)
-read_cause old new opens.Device found sheet cause none k is = cause k
-read_cause old new opens.Memory found sheet cause none k is = tt
-read_cause old new opens.Damaged found sheet cause none k is = none refl sheet is
-read_cause old new opens.NotADatabase found sheet cause none k is = cause
-read_cause old new opens.NewerFormat found sheet cause none k is = cause
+pub read_cause : (old new : History) (fault : OpenFault) (found : Result PageModel PageFault) (model : PageModel) → HasCause old new fault
+    → (fault ≡ opens.Damaged → (other : PageModel) → found ≡ Ok other → ⊥)
+    → KeepsWord new → found ≡ Ok model → HasReadCause old new (tree_fault fault)
+read_cause old new opens.Device found model cause none k is = cause k
+read_cause old new opens.Memory found model cause none k is = tt
+read_cause old new opens.Damaged found model cause none k is = none refl model is
+read_cause old new opens.NotADatabase found model cause none k is = cause
+read_cause old new opens.NewerFormat found model cause none k is = cause

@@ -9,11 +9,11 @@ use Rattle.roots.specs.declared.opening.OpenFault.{OpenFault}
 use Rattle.roots.specs.declared.opening.OpenFault.TheVariants as faults
 use Rattle.roots.specs.declared.root.Root.{Root}
 use Rattle.roots.specs.declared.store.Store.{Store}
-use Rattle.roots.specs.Image.{HoldsMap, StandsFor, sheet_at}
-use Rattle.roots.specs.Opening.{IsOpened as IsStoreOpened}
+use Rattle.roots.specs.Image.{HoldsMap, StandsFor, model_at}
+use Rattle.roots.specs.Opening.{IsStoreOpened as IsStoreOpened}
 use Rattle.roots.specs.Store.{IsCommitted, disk_history, durable_root}
 use Rattle.roots.specs.Walk.{FindsFree, HasCause}
-use Rattle.pager.specs.Opening.{IsRefused}
+use Rattle.pager.specs.Opening.{IsPagerRefused}
 
 -- a fault that reading a page may give
 record IsReadFault (old new : History) (fault : OpenFault) : Type 0 where
@@ -44,28 +44,28 @@ module _ {D : Type 0} (history : D → History) (disk : D) (mid : Store D) (firs
       let image = reads (now (history disk)) in
       let both : Ok stands.root ≡ Ok (durable_root mid) = sym stands.opens ∙ first.opens k in
       let same : stands.root ≡ durable_root mid = cc in
-      first.committed stands.pages entries (λ _. subst (λ (r : Root). HoldsMap (sheet_at image r) r stands.pages entries) same stands.holds)
+      first.committed stands.pages entries (λ _. subst (λ (r : Root). HoldsMap (model_at image r) r stands.pages entries) same stands.holds)
 
   refused_reading : (back : D) (fault : OpenFault) → ReadsOnly (disk_history history mid) (history back)
       → IsReadFault (disk_history history mid) (history back) fault
       → (fault ≡ faults.Damaged → KeepsWord (history back) → (live : List ℕ) (entries : List Entry) → IsCommitted history mid live entries → ⊥)
-      → IsRefused history disk back fault
+      → IsPagerRefused history disk back fault
   refused_reading back fault only read_so damaged =
       let h0 = history disk in
       let h1 = disk_history history mid in
       let h2 = history back in
       record {
-        on = goes_further h0 h1 h2 first.on only.on;
+        extends = goes_further h0 h1 h2 first.extends only.extends;
         any_moment = λ readable.
-            leaves_further h0 h1 h2 (IsImage (now h0)) only.on (first.any_moment readable)
-            (λ k image left. leaves_now h0 h1 (IsImage (now h0)) first.on (first.any_moment readable) (only.on.kept k) image
+            leaves_further h0 h1 h2 (IsImage (now h0)) only.extends (first.any_moment readable)
+            (λ k image left. leaves_now h0 h1 (IsImage (now h0)) first.extends (first.any_moment readable) (only.extends.kept k) image
             (reads_moments h1 h2 only k image left));
         damaged = λ other memory k entries stands. damaged (by_others fault other memory read_so.known read_so.old_format) k stands.pages entries
-            (committed_there entries stands (only.on.kept k));
+            (committed_there entries stands (only.extends.kept k));
         foreign = λ is. absurd (read_so.known is);
         later = λ is. absurd (read_so.old_format is);
-        device = λ is k. omega (arith, read_so.on_device is k, first.on.failures (only.on.kept k));
-        memory = λ is k. read_so.on_memory is k ∙ first.clear (only.on.kept k);
+        device = λ is k. omega (arith, read_so.on_device is k, first.extends.failures (only.extends.kept k));
+        memory = λ is k. read_so.on_memory is k ∙ first.clear (only.extends.kept k);
       }
     where
       by_others : (f : OpenFault) → f ≢ faults.Device → f ≢ faults.Memory → f ≢ faults.NotADatabase → f ≢ faults.NewerFormat → f ≡ faults.Damaged
@@ -76,7 +76,7 @@ module _ {D : Type 0} (history : D → History) (disk : D) (mid : Store D) (firs
       by_others faults.NewerFormat a b c d = absurd (d refl)
 
   -- there was no memory for the cache
-  pub refused_cache : (back : D) → history back ≡ disk_history history mid → IsRefused history disk back faults.Memory
+  pub refused_cache : (back : D) → history back ≡ disk_history history mid → IsPagerRefused history disk back faults.Memory
   refused_cache back same =
       let h1 = disk_history history mid in
       refused_reading back faults.Memory (subst (ReadsOnly h1) (sym same) (reads_nothing h1)) (record {
@@ -91,7 +91,7 @@ module _ {D : Type 0} (history : D → History) (disk : D) (mid : Store D) (firs
       → ReadsOnly (disk_history history mid) (disk_history history new)
       → HasCause (disk_history history mid) (disk_history history new) fault
       → (fault ≡ faults.Memory → KeepsWord (disk_history history new) → (disk_history history new).failures ≡ (disk_history history mid).failures)
-      → FindsFree history limit (Err fault) mid new → IsRefused history disk back fault
+      → FindsFree history limit (Err fault) mid new → IsPagerRefused history disk back fault
   refused_walking limit new back fault same only cause clear finds =
       let h1 = disk_history history mid in
       let h2 = disk_history history new in

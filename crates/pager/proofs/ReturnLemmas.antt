@@ -5,7 +5,7 @@ use Rattle.std.specs.Prelude.{◌&&◌, nat_lt, not, reverse, is_ok, Result, Ok}
 use Rattle.std.specs.List.{AllByRecursion}
 use Rattle.std.proofs.lemmas.List.{length-map, reverse-append, reverse-reverse, take-append-drop, take-map}
 use Rattle.std.proofs.Math.Seq.{take-append_seam}
-use Rattle.page.specs.Format.{Sheet}
+use Rattle.page.specs.Format.{PageModel}
 use Rattle.page.specs.History.{History, KeepsWord, now, reads}
 use Rattle.page.specs.declared.page_fault.PageFault.{PageFault}
 use Rattle.btree.specs.Store.{Grows, IsAt, IsSame, Stays}
@@ -17,13 +17,13 @@ use Rattle.freelist.specs.declared.turns.Change.{Change}
 use Rattle.freelist.specs.declared.turns.Change.TheVariants as changes
 use Rattle.freelist.proofs.Rewinding.{put_back, rewind-append, used_is}
 use Rattle.freelist.proofs.SoundBooks.{stays_sound}
-use Rattle.roots.specs.Image.{content_in, sheet_at}
+use Rattle.roots.specs.Image.{content_in, model_at}
 use Rattle.roots.specs.Store.{durable_root}
 use Rattle.roots.specs.Turn.{made_or, numbers_of}
 use Rattle.pager.specs.Kept.{IsBookFor, takes_of}
 use Rattle.pager.specs.State.{State}
 use Rattle.pager.specs.Turn.{IsOrderly, Returns, undone_to}
-use Rattle.pager.specs.View.{base_of, pager_history, sheets_of, store_of}
+use Rattle.pager.specs.View.{base_of, pager_history, models_of, store_of}
 use Rattle.pager.proofs.BookLemmas.{flag_some, taken_use}
 use Rattle.pager.proofs.ListLemmas.{all_take, made_joined, made_none}
 use Rattle.pager.proofs.MemberLemmas.{IsMember, all_among, member}
@@ -39,27 +39,27 @@ front_of xs ys more is =
     ap (take (length xs)) (sym (reverse-reverse ys) ∙ ap reverse is ∙ reverse-append more (reverse xs) ∙ ap (λ zs. zs ++ reverse more) (reverse-reverse xs))
     ∙ take-append_seam xs (reverse more)
 
-takes_are : (made : List Sheet) → takes_of made ≡ map (λ (n : ℕ). changes.Taken n) (numbers_of made)
+takes_are : (made : List PageModel) → takes_of made ≡ map (λ (n : ℕ). changes.Taken n) (numbers_of made)
 takes_are [] = refl
 takes_are (m ∷ ms) = ap (λ (l : List Change). changes.Taken m.page ∷ l) (takes_are ms)
 
-none_named : (made : List Sheet) (n : ℕ) → AllByRecursion (λ (m : Sheet). m.page ≢ n) made → AllByRecursion (λ (k : ℕ). k ≢ n) (numbers_of made)
+none_named : (made : List PageModel) (n : ℕ) → AllByRecursion (λ (m : PageModel). m.page ≢ n) made → AllByRecursion (λ (k : ℕ). k ≢ n) (numbers_of made)
 none_named [] n none = tt
 none_named (m ∷ ms) n none = (none.0, none_named ms n none.1)
 
-none_made : (made : List Sheet) (n : ℕ) → AllByRecursion (λ (k : ℕ). k ≢ n) (numbers_of made) → AllByRecursion (λ (m : Sheet). m.page ≢ n) made
+none_made : (made : List PageModel) (n : ℕ) → AllByRecursion (λ (k : ℕ). k ≢ n) (numbers_of made) → AllByRecursion (λ (m : PageModel). m.page ≢ n) made
 none_made [] n none = tt
 none_made (m ∷ ms) n none = (none.0, none_made ms n none.1)
 
 -- with these numbers, none there is none here
-none_too : (one other : List Sheet) (n : ℕ) → numbers_of one ≡ numbers_of other → AllByRecursion (λ (m : Sheet). m.page ≢ n) one
-    → AllByRecursion (λ (m : Sheet). m.page ≢ n) other
+none_too : (one other : List PageModel) (n : ℕ) → numbers_of one ≡ numbers_of other → AllByRecursion (λ (m : PageModel). m.page ≢ n) one
+    → AllByRecursion (λ (m : PageModel). m.page ≢ n) other
 none_too one other n same none = none_made other n (subst (AllByRecursion (λ (k : ℕ). k ≢ n)) same (none_named one n none))
 
 -- ---- the book
 
 -- Where all takes can be undone, what they lead back to tells what they made.
-rewound_once : (made : List Sheet) (one other : List PageState) → CanRewind (takes_of made) one → CanRewind (takes_of made) other
+rewound_once : (made : List PageModel) (one other : List PageState) → CanRewind (takes_of made) one → CanRewind (takes_of made) other
     → rewind (takes_of made) one ≡ rewind (takes_of made) other → one ≡ other
 rewound_once [] one other can could same = same
 rewound_once (m ∷ ms) one other can could same =
@@ -81,7 +81,7 @@ same_start n b = sym (rewind-append (take n b.turn) (drop n b.turn) b.states) �
 -- ---- the pages
 
 module _ {D : Type 0} (history : D → History) (earlier old : State D) (orderly : IsOrderly earlier) (booked : IsBookFor old.made old.book)
-    (positive : AllByRecursion (λ (m : Sheet). 0 < m.page) old.made)
+    (positive : AllByRecursion (λ (m : PageModel). 0 < m.page) old.made)
     (grows : Grows (store_of history earlier) (store_of history old))
     (some few : ℕ) (some_is : some ≡ length earlier.made) (few_is : few ≡ length earlier.retired) where
   abbrev last : State D
@@ -97,8 +97,8 @@ module _ {D : Type 0} (history : D → History) (earlier old : State D) (orderly
     numbers_same : numbers_of (take some old.made) ≡ numbers_of earlier.made
     numbers_same =
         let more = (grows.frame k).made_on in
-        let long : some ≡ length (numbers_of earlier.made) = some_is ∙ sym (length-map earlier.made (λ (m : Sheet). m.page)) in
-        sym (take-map (λ (m : Sheet). m.page) some old.made) ∙ ap (λ (n : ℕ). take n (numbers_of old.made)) long
+        let long : some ≡ length (numbers_of earlier.made) = some_is ∙ sym (length-map earlier.made (λ (m : PageModel). m.page)) in
+        sym (take-map (λ (m : PageModel). m.page) some old.made) ∙ ap (λ (n : ℕ). take n (numbers_of old.made)) long
         ∙ front_of (numbers_of earlier.made) (numbers_of old.made) more.0 more.1
 
     retired_same : take few old.retired ≡ earlier.retired
@@ -122,53 +122,53 @@ module _ {D : Type 0} (history : D → History) (earlier old : State D) (orderly
         (ap (λ (turn : List Change). rewind turn (undone some old.book).states) (sym turn_same) ∙ same_beginning last earlier base_same
         ∙ ap (λ (turn : List Change). rewind turn earlier.book.states) orderly.booked.turn)
 
-    abbrev disk_of : State D → ℕ → Result Sheet PageFault
-    disk_of p n = sheet_at (reads (now (pager_history history p))) (durable_root p.store) n
+    abbrev disk_of : State D → ℕ → Result PageModel PageFault
+    disk_of p n = model_at (reads (now (pager_history history p))) (durable_root p.store) n
 
     disk_same : (n : ℕ) → disk_of old n ≡ disk_of earlier n
     disk_same n =
-        (λ i. sheet_at (reads (grows.stays.reads.same k i)) (durable_root old.store) n)
-        ∙ ap (λ root. sheet_at (reads (now (pager_history history earlier))) root n) (same_root old earlier grows.stays.base)
+        (λ i. model_at (reads (grows.stays.reads.same k i)) (durable_root old.store) n)
+        ∙ ap (λ root. model_at (reads (now (pager_history history earlier))) root n) (same_root old earlier grows.stays.base)
 
     -- the page of a number has the content that it had
     record IsAsThen (n : ℕ) : Type 0 where
-      content : content_in (sheets_of history last n) ≡ content_in (sheets_of history earlier n)
-      there : is_ok (sheets_of history last n) ≡ is_ok (sheets_of history earlier n)
+      content : content_in (models_of history last n) ≡ content_in (models_of history earlier n)
+      there : is_ok (models_of history last n) ≡ is_ok (models_of history earlier n)
 
     as_then_made : (n : ℕ) → IsMember earlier.made n → IsMember (take some old.made) n → IsAsThen n
     as_then_made n was is =
-        let then_there : sheets_of history earlier n ≡ Ok was.sheet = was.there (disk_of earlier n) in
-        let now_there : sheets_of history last n ≡ Ok is.sheet = is.there (disk_of old n) in
-        let between : sheets_of history old n ≡ Ok is.sheet =
-        ap (λ (l : List Sheet). made_or l n (disk_of old n)) (sym (take-append-drop some old.made))
+        let then_there : models_of history earlier n ≡ Ok was.model = was.there (disk_of earlier n) in
+        let now_there : models_of history last n ≡ Ok is.model = is.there (disk_of old n) in
+        let between : models_of history old n ≡ Ok is.model =
+        ap (λ (l : List PageModel). made_or l n (disk_of old n)) (sym (take-append-drop some old.made))
         ∙ made_joined (take some old.made) (drop some old.made) n (disk_of old n)
         ∙ is.there (made_or (drop some old.made) n (disk_of old n)) in
         let used : is_in_use earlier.book.states n ≡ true =
         flag_some (is_in_use earlier.book.states n) (omega (arith, was.count, taken_use earlier.made earlier.book.states could n)) in
         let some_number : 0 < n =
         subst (λ (m : ℕ). 0 < m) is.is
-        (all_among (λ (m : Sheet). 0 < m.page) (take some old.made) is.sheet (all_take (λ (m : Sheet). 0 < m.page) some old.made positive) is.among) in
-        let at : IsAt (store_of history earlier) n (content_in (sheets_of history earlier n)) = record {
+        (all_among (λ (m : PageModel). 0 < m.page) (take some old.made) is.model (all_take (λ (m : PageModel). 0 < m.page) some old.made positive) is.among) in
+        let at : IsAt (store_of history earlier) n (content_in (models_of history earlier n)) = record {
           number = some_number;
           live = (λ i. is_ok (then_there i) && not (not_free_used earlier.book.states n used i));
           holds = refl;
         } in
         record {
-          content = ap content_in now_there ∙ sym (ap content_in between) ∙ ((grows.frame k).kept n (content_in (sheets_of history earlier n)) at).holds;
+          content = ap content_in now_there ∙ sym (ap content_in between) ∙ ((grows.frame k).kept n (content_in (models_of history earlier n)) at).holds;
           there = ap is_ok now_there ∙ sym (ap is_ok then_there);
         }
 
     as_then : (n : ℕ) → IsAsThen n
     as_then n = elim (member earlier.made n) [
       | inl none ↦
-          let then_disk : sheets_of history earlier n ≡ disk_of earlier n = made_none earlier.made n (disk_of earlier n) none in
-          let now_disk : sheets_of history last n ≡ disk_of old n =
+          let then_disk : models_of history earlier n ≡ disk_of earlier n = made_none earlier.made n (disk_of earlier n) none in
+          let now_disk : models_of history last n ≡ disk_of old n =
           made_none (take some old.made) n (disk_of old n) (none_too earlier.made (take some old.made) n (sym numbers_same) none) in
-          let same : sheets_of history last n ≡ sheets_of history earlier n = now_disk ∙ disk_same n ∙ sym then_disk in
+          let same : models_of history last n ≡ models_of history earlier n = now_disk ∙ disk_same n ∙ sym then_disk in
           record { content = ap content_in same; there = ap is_ok same }
       | inr was ↦ elim (member (take some old.made) n) [
         | inl none ↦ absurd
-            (all_among (λ (m : Sheet). m.page ≢ n) earlier.made was.sheet (none_too (take some old.made) earlier.made n numbers_same none) was.among was.is)
+            (all_among (λ (m : PageModel). m.page ≢ n) earlier.made was.model (none_too (take some old.made) earlier.made n numbers_same none) was.among was.is)
         | inr is ↦ as_then_made n was is
       ]
     ]
@@ -181,7 +181,7 @@ module _ {D : Type 0} (history : D → History) (earlier old : State D) (orderly
       made = ap reverse numbers_same;
       retired = ap reverse retired_same;
       failures = (grows.frame k).failures;
-      full_takes = (grows.frame k).full_takes;
+      failed_allocations = (grows.frame k).failed_allocations;
       counts = (let counts = (grows.frame k).counts in record { rises = counts.rises; paced = counts.paced; counted = counts.counted });
     }
 
@@ -189,7 +189,7 @@ module _ {D : Type 0} (history : D → History) (earlier old : State D) (orderly
   grows_back = grows_same (store_of history earlier) (store_of history last) stays_back same_back
 
 pub returns_back : {D : Type 0} (history : D → History) (old : State D) → IsBookFor old.made old.book
-    → AllByRecursion (λ (m : Sheet). 0 < m.page) old.made → (some few : ℕ)
+    → AllByRecursion (λ (m : PageModel). 0 < m.page) old.made → (some few : ℕ)
     → Returns history some few old (undone_to some few old)
 returns_back history old booked positive some few earlier orderly grows some_is few_is = (
   grows_back history earlier old orderly booked positive grows some few some_is few_is,

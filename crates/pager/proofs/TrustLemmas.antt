@@ -2,7 +2,7 @@
 use Rattle.std.proofs.Common.{◌≡◌, ℕ, Bool, List, sym, ap, subst}
 use Rattle.std.specs.Prelude.{IsTrue}
 use Rattle.page.specs.History.{History, KeepsWord}
-use Rattle.page.specs.Format.{Sheet}
+use Rattle.page.specs.Format.{PageModel}
 use Rattle.page.specs.declared.page_cache.PageCache.{PageCache}
 use Rattle.btree.specs.Keys.{Entry}
 use Rattle.btree.specs.Reach.{HasMap}
@@ -21,7 +21,7 @@ use Rattle.pager.specs.Turn.{IsBegun}
 use Rattle.pager.specs.View.{pager_history, store_of}
 
 -- Its invariant says no more than that over the disk itself.
-pub kept_trusting : {D : Type 0} (history : D → History) (b : Bool) (store : Store D) (cache : PageCache) (made : List Sheet) (book : Book)
+pub kept_trusting : {D : Type 0} (history : D → History) (b : Bool) (store : Store D) (cache : PageCache) (made : List PageModel) (book : Book)
     (listed places : List ℕ) → IsKept history store cache made book listed places
     → IsKept (trusted_history history) (trusting_store b store) cache made book listed places
 kept_trusting history b store cache made book listed places kept = record {

@@ -6,7 +6,7 @@ use Rattle.std.specs.List.{AllByRecursion}
 use Rattle.std.proofs.lemmas.Bool.{cases_lt}
 use Rattle.std.proofs.lemmas.List.{length-set}
 use Rattle.std.proofs.Math.Seq.{drop-append_seam, take-append_seam}
-use Rattle.page.specs.Format.{Sheet}
+use Rattle.page.specs.Format.{PageModel}
 use Rattle.page.specs.History.{History, Sector, KeepsWord, now, reads}
 use Rattle.page.specs.Crash.{IsDurable}
 use Rattle.btree.specs.Keys.{Entry, times}
@@ -19,7 +19,7 @@ use Rattle.freelist.specs.declared.states.PageState.TheVariants as states
 use Rattle.freelist.specs.declared.turns.Change.{Change}
 use Rattle.freelist.specs.declared.turns.Retirement.{Retirement}
 use Rattle.roots.specs.declared.root.Root.{Root}
-use Rattle.roots.specs.Image.{HoldsMap, OpensAs, reached_by, sheet_at}
+use Rattle.roots.specs.Image.{HoldsMap, OpensAs, reached_by, model_at}
 use Rattle.roots.specs.Store.{IsCommitted, durable_root, is_stopped}
 use Rattle.roots.specs.Turn.{numbers_of}
 use Rattle.pager.specs.Kept.{AreListed, IsBookFor, takes_of}
@@ -40,7 +40,7 @@ states_back (s ∷ pages) = (λ i. number_state-state_number s i ∷ states_back
 same_states : (one other : List PageState) → map state_number one ≡ map state_number other → one ≡ other
 same_states one other same = sym (states_back one) ∙ ap (map number_state) same ∙ states_back other
 
-length_rewind : (made : List Sheet) (pages : List PageState) → length (rewind (takes_of made) pages) ≡ length pages
+length_rewind : (made : List PageModel) (pages : List PageState) → length (rewind (takes_of made) pages) ≡ length pages
 length_rewind [] pages = refl
 length_rewind (m ∷ made) pages = length-set (rewind (takes_of made) pages) m.page states.Free ∙ length_rewind made pages
 
@@ -106,7 +106,7 @@ module _ {D : Type 0} (history : D → History) (p start : State D) (stays : Sta
   sectors_same = stays.reads.same word
 
   word_then : KeepsWord (pager_history history start)
-  word_then = stays.reads.on.kept word
+  word_then = stays.reads.extends.kept word
 
   root_same : durable_root p.store ≡ durable_root start.store
   root_same = same_root p start stays.base
@@ -132,8 +132,8 @@ module _ {D : Type 0} (history : D → History) (p start : State D) (stays : Sta
         keeps = record {
           opens = λ k. subst (λ (s : ℕ → Sector). OpensAs (reads s) (durable_root p.store)) (sym sectors_same)
               (subst (λ (r : Root). OpensAs (reads (now (pager_history history start))) r) (sym root_same) (then_committed.keeps.opens word_then));
-          holds = λ k. subst (λ (s : ℕ → Sector). HoldsMap (sheet_at (reads s) (durable_root p.store)) (durable_root p.store) live before) (sym sectors_same)
-              (subst (λ (r : Root). HoldsMap (sheet_at (reads (now (pager_history history start))) r) r live before) (sym root_same)
+          holds = λ k. subst (λ (s : ℕ → Sector). HoldsMap (model_at (reads s) (durable_root p.store)) (durable_root p.store) live before) (sym sectors_same)
+              (subst (λ (r : Root). HoldsMap (model_at (reads (now (pager_history history start))) r) r live before) (sym root_same)
               (then_committed.keeps.holds word_then));
           durable = λ k parts has j kept. subst (λ (s : ℕ → Sector). IsDurable (s j)) (sym sectors_same)
               (then_committed.keeps.durable word_then parts (listed_then parts has) j kept);
@@ -166,8 +166,8 @@ module _ {D : Type 0} (history : D → History) (p start : State D) (stays : Sta
       omega (arith, then_used, same, taken_use p.made p.book.states can n)
 
   pub made_apart : (parts : List Part) → HasListIn live parts (now (pager_history history p)) (durable_root p.store)
-      → AllByRecursion (λ (m : Sheet). times m.page (reached_by live parts) ≡ 0) p.made
-  made_apart parts has = all_weaker (λ (m : Sheet). 1 ≤ times m.page (numbers_of p.made)) (λ (m : Sheet). times m.page (reached_by live parts) ≡ 0)
+      → AllByRecursion (λ (m : PageModel). times m.page (reached_by live parts) ≡ 0) p.made
+  made_apart parts has = all_weaker (λ (m : PageModel). 1 ≤ times m.page (numbers_of p.made)) (λ (m : PageModel). times m.page (reached_by live parts) ≡ 0)
       (λ m some. omega (arith, some, used_with parts has m.page (made_below p.made p.book booked m.page some), flag_most (is_in_use p.book.states m.page)))
       p.made
       (each_counted p.made)

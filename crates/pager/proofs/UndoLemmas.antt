@@ -1,7 +1,7 @@
 -- A turn that is taken back.
 use Rattle.std.proofs.Common.{◌≡◌, ℕ, zero, suc, List, [], ◌∷◌, length, take, drop, refl, sym, ◌∙◌, ap, subst, arith}
 use Rattle.std.proofs.lemmas.List.{length-set}
-use Rattle.page.specs.Format.{Sheet}
+use Rattle.page.specs.Format.{PageModel}
 use Rattle.page.specs.History.{History}
 use Rattle.page.specs.declared.page_cache.PageCache.{PageCache}
 use Rattle.btree.specs.Keys.{Entry}
@@ -23,21 +23,21 @@ use Rattle.pager.proofs.ListLemmas.{all_take}
 use Rattle.pager.proofs.OrderLemmas.{lower_than, order_undone}
 use Rattle.pager.proofs.TurnLemmas.{committed_still, in_use_then, states_then}
 
-pub take_takes : (n : ℕ) (made : List Sheet) → take n (takes_of made) ≡ takes_of (take n made)
+pub take_takes : (n : ℕ) (made : List PageModel) → take n (takes_of made) ≡ takes_of (take n made)
 take_takes zero made = refl
 take_takes (suc n) [] = refl
 take_takes (suc n) (m ∷ ms) = ap (λ (l : List Change). changes.Taken m.page ∷ l) (take_takes n ms)
 
-pub drop_takes : (n : ℕ) (made : List Sheet) → drop n (takes_of made) ≡ takes_of (drop n made)
+pub drop_takes : (n : ℕ) (made : List PageModel) → drop n (takes_of made) ≡ takes_of (drop n made)
 drop_takes zero made = refl
 drop_takes (suc n) [] = refl
 drop_takes (suc n) (m ∷ ms) = drop_takes n ms
 
-pub length_takes : (made : List Sheet) (pages : List PageState) → length (rewind (takes_of made) pages) ≡ length pages
+pub length_takes : (made : List PageModel) (pages : List PageState) → length (rewind (takes_of made) pages) ≡ length pages
 length_takes [] pages = refl
 length_takes (m ∷ made) pages = length-set (rewind (takes_of made) pages) m.page states.Free ∙ length_takes made pages
 
-module _ {D : Type 0} {listed places : List ℕ} (history : D → History) (store : Store D) (cache : PageCache) (made : List Sheet) (book : Book)
+module _ {D : Type 0} {listed places : List ℕ} (history : D → History) (store : Store D) (cache : PageCache) (made : List PageModel) (book : Book)
     (so : IsKept history store cache made book listed places) (n : ℕ) where
   later_is : drop n book.turn ≡ takes_of (drop n made)
   later_is = ap (drop n) so.booked.turn ∙ drop_takes n made
@@ -61,7 +61,7 @@ module _ {D : Type 0} {listed places : List ℕ} (history : D → History) (stor
   }
 
 -- back to where the turn began
-pub begun_again : {D : Type 0} {listed places : List ℕ} (history : D → History) (store : Store D) (cache : PageCache) (made : List Sheet) (retired : List ℕ)
+pub begun_again : {D : Type 0} {listed places : List ℕ} (history : D → History) (store : Store D) (cache : PageCache) (made : List PageModel) (retired : List ℕ)
     (book : Book)
     (so : IsKept history store cache made book listed places)
     (start : State D) (live : List ℕ) (entries : List Entry) → IsBegun history start live entries
@@ -84,7 +84,7 @@ begun_again {D = D} history store cache made retired book so start live entries 
       };
     }
 
-pub leads_back : {D : Type 0} {listed places : List ℕ} (history : D → History) (store : Store D) (cache : PageCache) (made : List Sheet) (retired : List ℕ)
+pub leads_back : {D : Type 0} {listed places : List ℕ} (history : D → History) (store : Store D) (cache : PageCache) (made : List PageModel) (retired : List ℕ)
     (book : Book)
     → IsKept history store cache made book listed places → (some few : ℕ)
     → let p : State D = record { store = store; made = made; retired = retired; book = book } in LeadsBack history some few p (undone_to some few p)

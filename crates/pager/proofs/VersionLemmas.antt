@@ -4,7 +4,7 @@ use Rattle.std.specs.Prelude.{◌&&◌, is_ok, nat_lt, not, IsErr, Result, Ok, E
 use Rattle.std.specs.List.{AllByRecursion}
 use Rattle.std.proofs.lemmas.Bool.{cases_lt}
 use Rattle.std.proofs.lemmas.List.{get_or_past}
-use Rattle.page.specs.Format.{Sheet}
+use Rattle.page.specs.Format.{PageModel}
 use Rattle.page.specs.History.{History, KeepsWord}
 use Rattle.page.specs.declared.page_cache.PageCache.{PageCache}
 use Rattle.btree.specs.Keys.{Entry, times}
@@ -21,7 +21,7 @@ use Rattle.pager.specs.Kept.{IsBookFor, IsKept}
 use Rattle.pager.specs.Pinning.{IsPinned, KeepsEach, KeepsVersion, Pins, Unpins, WaitSince}
 use Rattle.pager.specs.State.{State}
 use Rattle.pager.specs.Turn.{IsBegun}
-use Rattle.pager.specs.View.{pager_history, sheets_of, store_of}
+use Rattle.pager.specs.View.{pager_history, models_of, store_of}
 use Rattle.pager.specs.declared.version.Version.{Version}
 use Rattle.pager.proofs.AgainLemmas.{goes_on_with, tree_in_use}
 use Rattle.pager.proofs.BookLemmas.{LeavesUse, booked_leaves, each_listed, freed_kept, nothing_leaves, one_time, pin_leaves, unpin_leaves, used_unlisted}
@@ -106,7 +106,7 @@ module _ {D : Type 0} (history : D → History) (p : State D) (gone : ℕ) where
     moved : (n : ℕ) → 1 ≤ times n pages → Moves (store_of history p) (store_of history unpinned_now) n
     moved n some content at = record {
       number = at.number;
-      live = (λ i. is_ok (sheets_of history p n) && not (nat_lt 0 n && is_free_state (state_same n some i))) ∙ at.live;
+      live = (λ i. is_ok (models_of history p n) && not (nat_lt 0 n && is_free_state (state_same n some i))) ∙ at.live;
       holds = at.holds;
     }
 
@@ -123,7 +123,7 @@ module _ {D : Type 0} (history : D → History) (p : State D) (gone : ℕ) where
 
 -- ---- as the calls have it
 
-pub kept_with : {D : Type 0} {listed places : List ℕ} (history : D → History) (store : Store D) (cache : PageCache) (made : List Sheet) (book other : Book)
+pub kept_with : {D : Type 0} {listed places : List ℕ} (history : D → History) (store : Store D) (cache : PageCache) (made : List PageModel) (book other : Book)
     → LeavesUse book other → IsKept history store cache made book listed places → IsKept history store cache made other listed places
 kept_with history store cache made book other leaves so = record {
   cached = so.cached;
@@ -134,26 +134,26 @@ kept_with history store cache made book other leaves so = record {
   wide = omega (arith, so.wide, leaves.long);
 }
 
-pub kept_pinned : {D : Type 0} {listed places : List ℕ} (history : D → History) (store : Store D) (cache : PageCache) (made : List Sheet) (book : Book)
+pub kept_pinned : {D : Type 0} {listed places : List ℕ} (history : D → History) (store : Store D) (cache : PageCache) (made : List PageModel) (book : Book)
     (generation : ℕ) (other : Book) → other ≡ pinned generation book → IsKept history store cache made book listed places
     → IsKept history store cache made other listed places
 kept_pinned {listed = listed} {places = places} history store cache made book generation other is so =
     subst (λ (b : Book). IsKept history store cache made b listed places) (sym is)
     (kept_with history store cache made book (pinned generation book) (pin_leaves generation book so.booked.sound) so)
 
-pub kept_unpinned : {D : Type 0} {listed places : List ℕ} (history : D → History) (store : Store D) (cache : PageCache) (made : List Sheet) (book : Book)
+pub kept_unpinned : {D : Type 0} {listed places : List ℕ} (history : D → History) (store : Store D) (cache : PageCache) (made : List PageModel) (book : Book)
     (generation : ℕ) (other : Book) → other ≡ unpinned generation book → IsKept history store cache made book listed places
     → IsKept history store cache made other listed places
 kept_unpinned {listed = listed} {places = places} history store cache made book generation other is so =
     subst (λ (b : Book). IsKept history store cache made b listed places) (sym is)
     (kept_with history store cache made book (unpinned generation book) (unpin_leaves generation book so.booked.sound) so)
 
-module _ {D : Type 0} {listed places : List ℕ} (history : D → History) (store : Store D) (cache : PageCache) (made : List Sheet) (retired : List ℕ)
+module _ {D : Type 0} {listed places : List ℕ} (history : D → History) (store : Store D) (cache : PageCache) (made : List PageModel) (retired : List ℕ)
     (book : Book) (so : IsKept history store cache made book listed places) where
   abbrev now_with : Book → State D
   now_with other = record { store = store; made = made; retired = retired; book = other }
 
-  positive : AllByRecursion (λ (m : Sheet). 0 < m.page) made
+  positive : AllByRecursion (λ (m : PageModel). 0 < m.page) made
   positive = all_positive made places so.order
 
   pins_now : {E : Type 0} (root : ℕ)

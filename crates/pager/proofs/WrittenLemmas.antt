@@ -5,7 +5,7 @@ use Rattle.std.specs.List.{AllByRecursion}
 use Rattle.std.proofs.lemmas.Bool.{cases_lt}
 use Rattle.std.proofs.lemmas.Bool.Decides.{nat_tests}
 use Rattle.page.specs.Content.{IsContent, is_of_tree}
-use Rattle.page.specs.Format.{Sheet}
+use Rattle.page.specs.Format.{PageModel}
 use Rattle.page.specs.History.{History, KeepsWord, now, reads}
 use Rattle.page.specs.declared.page_cache.PageCache.{PageCache}
 use Rattle.page.specs.declared.page_fault.PageFault.{PageFault}
@@ -21,11 +21,11 @@ use Rattle.freelist.specs.ListWriting.{IsMade, count_with}
 use Rattle.freelist.proofs.MadeLists.{partition, there as list_there, times_used}
 use Rattle.freelist.proofs.Marking.{times_in-append}
 use Rattle.roots.specs.declared.root.Root.{Root}
-use Rattle.roots.specs.Image.{content_in, list_in, reached_by, sheet_at, store_of as image_store}
-use Rattle.roots.specs.Listed.{list_sheets}
+use Rattle.roots.specs.Image.{content_in, list_in, reached_by, model_at, store_of as image_store}
+use Rattle.roots.specs.Listed.{list_models}
 use Rattle.roots.specs.Store.{durable_root}
 use Rattle.roots.specs.Turn.{IsTurn as IsRootsTurn, LieBehind, end_behind, made_or, next_root, numbers_of}
-use Rattle.roots.proofs.CountLemmas.{IsInside, sheet_inside}
+use Rattle.roots.proofs.CountLemmas.{IsInside, model_inside}
 use Rattle.roots.proofs.HeldFileLemmas.{times_same}
 use Rattle.roots.proofs.KeptPages.{kept_there, made_there}
 use Rattle.roots.proofs.MadeLemmas.{inside_end}
@@ -35,16 +35,16 @@ use Rattle.pager.specs.Order.{pages_at}
 use Rattle.pager.specs.Planning.{next_generation, pages_with}
 use Rattle.pager.specs.State.{State}
 use Rattle.pager.specs.Turn.{IsBegun}
-use Rattle.pager.specs.View.{pager_history, sheets_of, store_of}
+use Rattle.pager.specs.View.{pager_history, models_of, store_of}
 use Rattle.pager.specs.Writing.{IsAmong}
 use Rattle.pager.proofs.BookLemmas.{flag_most, flag_some, kept_use, lost_use, made_below, one_time}
 use Rattle.pager.proofs.CapacityLemmas.{has_times}
 use Rattle.pager.proofs.ListLemmas.{made_none}
-use Rattle.pager.proofs.ListedLemmas.{all_free, free_inside, free_unused, holds_listed, sheets_of as each_sheet}
+use Rattle.pager.proofs.ListedLemmas.{all_free, free_inside, free_unused, holds_listed, models_of as each_model}
 use Rattle.pager.proofs.MemberLemmas.{all_among, all_filter, among_filter, behind_among, member, more_times, times_append, times_reverse}
 use Rattle.pager.proofs.MergeLemmas.{all_merged, all_parts, among_first}
 use Rattle.pager.proofs.OrderLemmas.{all_at, found_among, in_order}
-use Rattle.pager.proofs.PlanLemmas.{all, all_inside, all_lie, all_sheets, count_is, fits, free_then, planned, planned_long, tree}
+use Rattle.pager.proofs.PlanLemmas.{all, all_inside, all_lie, all_models, count_is, fits, free_then, planned, planned_long, tree}
 use Rattle.pager.proofs.ReadLemmas.{HasListIn}
 use Rattle.pager.proofs.TreeLemmas.{IsOfTree, map_pages}
 use Rattle.pager.proofs.TurnLemmas.{made_apart, times_once, used_now, used_with}
@@ -68,14 +68,14 @@ module _ {D : Type 0} {listed places : List ℕ} (history : D → History) (p st
   abbrev mid : Book
   mid = planned history p.store cache p.made gone p.book so
 
-  abbrev those : List Sheet
+  abbrev those : List PageModel
   those = tree history p.store cache p.made gone p.book so
 
   abbrev version : ℕ
   version = (durable_root p.store).generation
 
-  abbrev test : Sheet → Bool
-  test sheet = is_of_tree sheet.content && (is_in_use mid.states sheet.page || is_pinned mid.pins version)
+  abbrev test : PageModel → Bool
+  test model = is_of_tree model.content && (is_in_use mid.states model.page || is_pinned mid.pins version)
 
   account : (n : ℕ) → times n reached + times n p.retired ≡ times n live + times n (numbers_of p.made)
   account n = omega (arith, turn.account n, times_reverse n p.retired, times_reverse n (numbers_of p.made))
@@ -109,11 +109,11 @@ module _ {D : Type 0} {listed places : List ℕ} (history : D → History) (p st
   ]
 
   module _ (pages named : List ℕ) (final : Book) (list : IsMade (pages_with (durable_root p.store) those) pages named mid final) where
-    abbrev written_all : List Sheet
+    abbrev written_all : List PageModel
     written_all = all history p.store cache p.made gone p.book so pages named final list
 
-    abbrev sheets : List Sheet
-    sheets = list_sheets (next_generation (durable_root p.store)) (written pages named)
+    abbrev models : List PageModel
+    models = list_models (next_generation (durable_root p.store)) (written pages named)
 
     abbrev next : Root
     next = next_root (durable_root p.store) written_all root (first_page (written pages named)) (length named)
@@ -121,11 +121,11 @@ module _ {D : Type 0} {listed places : List ℕ} (history : D → History) (p st
     abbrev image : ℕ → List ℕ
     image = reads (now (pager_history history p))
 
-    abbrev after_sheets : ℕ → Result Sheet PageFault
-    after_sheets j = made_or written_all j (sheet_at image next j)
+    abbrev after_models : ℕ → Result PageModel PageFault
+    after_models j = made_or written_all j (model_at image next j)
 
     abbrev after_store : Store
-    after_store = image_store after_sheets
+    after_store = image_store after_models
 
     lies : LieBehind 0 written_all
     lies = all_lie history p.store cache p.made gone p.book so pages named final list
@@ -143,27 +143,28 @@ module _ {D : Type 0} {listed places : List ℕ} (history : D → History) (p st
 
     moved_page : (n : ℕ) → 1 ≤ times n reached → IsOfTree (store_of history p) n → Moves (store_of history p) after_store n
     moved_page n some whole content at =
-        let there : is_ok (sheets_of history p n) ≡ true = live_part (is_ok (sheets_of history p n)) _ at.live in
+        let there : is_ok (models_of history p n) ≡ true = live_part (is_ok (models_of history p n)) _ at.live in
         elim (member p.made n) [
           | inl none ↦
-              let other : sheets_of history p n ≡ sheet_at image (durable_root p.store) n = made_none p.made n (sheet_at image (durable_root p.store) n) none in
-              let none_written : AllByRecursion (λ (m : Sheet). m.page ≢ n) written_all =
-              all_merged (λ (m : Sheet). m.page ≢ n) those sheets
-              (all_filter (λ (m : Sheet). m.page ≢ n) test (pages_at p.made places) (all_at (λ (m : Sheet). m.page ≢ n) p.made places so.order.inside none))
-              (each_sheet (λ (m : Sheet). m.page ≢ n) (next_generation (durable_root p.store)) pages named
+              let other : models_of history p n ≡ model_at image (durable_root p.store) n = made_none p.made n (model_at image (durable_root p.store) n) none in
+              let none_written : AllByRecursion (λ (m : PageModel). m.page ≢ n) written_all =
+              all_merged (λ (m : PageModel). m.page ≢ n) those models
+              (all_filter (λ (m : PageModel). m.page ≢ n) test (pages_at p.made places)
+              (all_at (λ (m : PageModel). m.page ≢ n) p.made places so.order.inside none))
+              (each_model (λ (m : PageModel). m.page ≢ n) (next_generation (durable_root p.store)) pages named
               (λ m is taken same. omega (arith, some, not_reached m.page taken, ap (λ (k : ℕ). times k reached) same))) in
               kept_there image (durable_root p.store) written_all root (first_page (written pages named)) (length named) n content none_written
               (record { number = at.number; live = ap is_ok (sym other) ∙ there; holds = ap content_in (sym other) ∙ at.holds })
           | inr r ↦
-              let is : sheets_of history p n ≡ Ok r.sheet = r.there (sheet_at image (durable_root p.store) n) in
+              let is : models_of history p n ≡ Ok r.model = r.there (model_at image (durable_root p.store) n) in
               let within = made_below p.made p.book so.booked n r.count in
               let stays_used : is_in_use mid.states n ≡ true = flag_some (is_in_use mid.states n) (omega (arith, some, tree_use n within)) in
-              let fits_tree : is_of_tree r.sheet.content ≡ true = ap (λ (found : Result Sheet PageFault). is_of_tree (content_in found)) (sym is) ∙ whole in
-              let passes : test r.sheet ≡ true = (λ i. fits_tree i && ((ap (is_in_use mid.states) r.is ∙ stays_used) i || is_pinned mid.pins version)) in
-              let among : IsAmong r.sheet those =
-              among_filter test (pages_at p.made places) r.sheet passes (in_order p.made places so.order r.sheet r.among) in
-              let found : after_sheets n ≡ Ok r.sheet =
-              found_among 0 written_all r.sheet n (sheet_at image next n) lies (among_first those sheets r.sheet among) r.is in
+              let fits_tree : is_of_tree r.model.content ≡ true = ap (λ (found : Result PageModel PageFault). is_of_tree (content_in found)) (sym is) ∙ whole in
+              let passes : test r.model ≡ true = (λ i. fits_tree i && ((ap (is_in_use mid.states) r.is ∙ stays_used) i || is_pinned mid.pins version)) in
+              let among : IsAmong r.model those =
+              among_filter test (pages_at p.made places) r.model passes (in_order p.made places so.order r.model r.among) in
+              let found : after_models n ≡ Ok r.model =
+              found_among 0 written_all r.model n (model_at image next n) lies (among_first those models r.model among) r.is in
               record { number = at.number; live = ap is_ok found; holds = ap content_in found ∙ ap content_in (sym is) ∙ at.holds }
         ]
 
@@ -187,24 +188,24 @@ module _ {D : Type 0} {listed places : List ℕ} (history : D → History) (p st
     pages_are : next.pages ≡ count
     pages_are = count_is history p.store cache p.made gone p.book so pages named final list
 
-    holds_list : IsFreeList (list_in after_sheets) next.pages next.free_list next.free_count (written pages named)
+    holds_list : IsFreeList (list_in after_models) next.pages next.free_list next.free_count (written pages named)
     holds_list =
-        subst (λ (n : ℕ). IsFreeList (list_in after_sheets) n (first_page (written pages named)) (length named) (written pages named)) (sym pages_are)
-        (list_there (pages_with (durable_root p.store) those) pages named mid final list (list_in after_sheets)
-        (holds_listed after_sheets (next_generation (durable_root p.store)) pages named
-        (all_parts (λ (m : Sheet). after_sheets m.page ≡ Ok m) those sheets (made_there (λ m. sheet_at image next m) 0 written_all lies)).1))
+        subst (λ (n : ℕ). IsFreeList (list_in after_models) n (first_page (written pages named)) (length named) (written pages named)) (sym pages_are)
+        (list_there (pages_with (durable_root p.store) those) pages named mid final list (list_in after_models)
+        (holds_listed after_models (next_generation (durable_root p.store)) pages named
+        (all_parts (λ (m : PageModel). after_models m.page ≡ Ok m) those models (made_there (λ m. model_at image next m) 0 written_all lies)).1))
 
     -- what the tree reaches are pages of the file
     reached_inside : (n : ℕ) → 1 ≤ times n reached → IsInside next.pages n
     reached_inside n some =
-        let ok : is_ok (after_sheets n) ≡ true =
-        has_times (λ m. is_ok (after_sheets m) ≡ true) n reached (map_live after_store root reached after map_after) some in
+        let ok : is_ok (after_models n) ≡ true =
+        has_times (λ m. is_ok (after_models m) ≡ true) n reached (map_live after_store root reached after map_after) some in
         elim (member written_all n) [
-          | inl none ↦ sheet_inside image next n (ap is_ok (sym (made_none written_all n (sheet_at image next n) none)) ∙ ok)
+          | inl none ↦ model_inside image next n (ap is_ok (sym (made_none written_all n (model_at image next n) none)) ∙ ok)
           | inr r ↦
-              let below : r.sheet.page < end_behind 1 written_all =
-              all_among (λ (m : Sheet). m.page < end_behind 1 written_all) written_all r.sheet (inside_end written_all 0 1 lies) r.among in
-              subst (IsInside next.pages) r.is (behind_among 0 written_all r.sheet lies r.among, omega (arith, below))
+              let below : r.model.page < end_behind 1 written_all =
+              all_among (λ (m : PageModel). m.page < end_behind 1 written_all) written_all r.model (inside_end written_all 0 1 lies) r.among in
+              subst (IsInside next.pages) r.is (behind_among 0 written_all r.model lies r.among, omega (arith, below))
         ]
 
     fits_book : count ≤ length p.book.states
@@ -251,13 +252,13 @@ module _ {D : Type 0} {listed places : List ℕ} (history : D → History) (p st
     -- ---- the whole
 
     free_pages : (parts : List Part) → HasListIn live parts (now (pager_history history p)) (durable_root p.store)
-        → AllByRecursion (λ (m : Sheet). times m.page (reached_by live parts) ≡ 0) written_all
+        → AllByRecursion (λ (m : PageModel). times m.page (reached_by live parts) ≡ 0) written_all
     free_pages parts has =
-        all_merged (λ (m : Sheet). times m.page (reached_by live parts) ≡ 0) those sheets
-        (all_filter (λ (m : Sheet). times m.page (reached_by live parts) ≡ 0) test (pages_at p.made places)
-        (all_at (λ (m : Sheet). times m.page (reached_by live parts) ≡ 0) p.made places so.order.inside
+        all_merged (λ (m : PageModel). times m.page (reached_by live parts) ≡ 0) those models
+        (all_filter (λ (m : PageModel). times m.page (reached_by live parts) ≡ 0) test (pages_at p.made places)
+        (all_at (λ (m : PageModel). times m.page (reached_by live parts) ≡ 0) p.made places so.order.inside
         (made_apart history p start stays word live before begun so.booked parts has)))
-        (each_sheet (λ (m : Sheet). times m.page (reached_by live parts) ≡ 0) (next_generation (durable_root p.store)) pages named (λ m is taken.
+        (each_model (λ (m : PageModel). times m.page (reached_by live parts) ≡ 0) (next_generation (durable_root p.store)) pages named (λ m is taken.
         let free = free_then history p.store cache p.made gone p.book so pages named final list m.page taken in
         omega (
           arith,
@@ -265,12 +266,12 @@ module _ {D : Type 0} {listed places : List ℕ} (history : D → History) (p st
           ap flag (free_unused p.book.states m.page free),
         )))
 
-    pub roots_turn : AllByRecursion (λ (m : Sheet). IsContent m.content) those
+    pub roots_turn : AllByRecursion (λ (m : PageModel). IsContent m.content) those
         → IsRootsTurn (pager_history history p) (durable_root p.store) live written_all next reached after
     roots_turn content = record {
       ascending = lies;
       inside = all_inside history p.store cache p.made gone p.book so pages named final list;
-      sheets = all_sheets history p.store cache p.made gone p.book so pages named final list content;
+      models = all_models history p.store cache p.made gone p.book so pages named final list content;
       free = λ _ parts has. free_pages parts has;
       holds = λ _. record {
         map = map_after;

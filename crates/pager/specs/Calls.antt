@@ -1,7 +1,7 @@
 -- What the parts of a pager's calls do.
 use Rattle.std.specs.Prelude.{◌≡◌, ◌≢◌, ◌⊎◌, ℕ, ◌<◌, Some, None, Result, Ok, IfOk, IfErr}
 use Rattle.page.specs.Cache.{kept}
-use Rattle.page.specs.Format.{Sheet}
+use Rattle.page.specs.Format.{PageModel}
 use Rattle.page.specs.History.{History, KeepsWord, now, reads}
 use Rattle.page.specs.Crash.{ReadsOnly}
 use Rattle.page.specs.declared.page_cache.PageCache.{PageCache}
@@ -11,7 +11,7 @@ use Rattle.freelist.specs.Book.{Book, Takes}
 use Rattle.roots.specs.declared.opening.OpenFault.{OpenFault}
 use Rattle.roots.specs.declared.opening.OpenFault.TheVariants as opens
 use Rattle.roots.specs.declared.store.Store.{Store}
-use Rattle.roots.specs.Image.{sheet_at}
+use Rattle.roots.specs.Image.{model_at}
 use Rattle.roots.specs.Store.{CountsFailed, disk_history, durable_root, is_stopped}
 use Rattle.pager.specs.Kept.{Agrees}
 
@@ -23,9 +23,9 @@ pub record OnlyRead {D : Type 0} (history : D → History) (old new : Store D) :
   pub noted : KeepsWord (disk_history history new) → CountsFailed history old new
 
 -- what is kept was kept before, or is this page
-abbrev pub Keeps : ℕ → Sheet → PageCache → PageCache → Type 0
-Keeps page sheet before after = (n : ℕ) (found : Sheet) → kept after n ≡ Some found
-    → (kept before n ≡ Some found) ⊎ ((n ≡ page) × (found ≡ sheet))
+abbrev pub Keeps : ℕ → PageModel → PageCache → PageCache → Type 0
+Keeps page model before after = (n : ℕ) (found : PageModel) → kept after n ≡ Some found
+    → (kept before n ≡ Some found) ⊎ ((n ≡ page) × (found ≡ model))
 
 -- a page that is none is told by its number
 abbrev pub tree_fault : OpenFault → TreeFault
@@ -47,18 +47,19 @@ HasReadCause old new faults.Length = ⊥
 
 -- The page of this number was read from the cache or from the disk.
 pub record ReadsPage {D : Type 0} (history : D → History) (page : ℕ)
-    (result : Result Sheet TreeFault) (old new : Store D) (before after : PageCache) : Type 0 where
-  pub only : OnlyRead history old new
-  pub value : Agrees history old before → KeepsWord (disk_history history new)
-      → let sheet = sheet_at (reads (now (disk_history history old))) (durable_root old) page in
-      IfOk result (λ shared. sheet ≡ Ok shared)
-  pub cause : KeepsWord (disk_history history new)
-      → let sheet = sheet_at (reads (now (disk_history history old))) (durable_root old) page in
-      (found : Sheet) → sheet ≡ Ok found
-      → IfErr result (HasReadCause (disk_history history old) (disk_history history new))
-  pub agrees : Agrees history old before → Agrees history new after
-  pub others : (n : ℕ) (found : Sheet) → n ≢ page
-      → kept after n ≡ Some found → kept before n ≡ Some found
+    (result : Result PageModel TreeFault) (old new : Store D) (before after : PageCache) : Type 0
+  where
+    pub only : OnlyRead history old new
+    pub value : Agrees history old before → KeepsWord (disk_history history new)
+        → let model = model_at (reads (now (disk_history history old))) (durable_root old) page in
+        IfOk result (λ shared. model ≡ Ok shared)
+    pub cause : KeepsWord (disk_history history new)
+        → let model = model_at (reads (now (disk_history history old))) (durable_root old) page in
+        (found : PageModel) → model ≡ Ok found
+        → IfErr result (HasReadCause (disk_history history old) (disk_history history new))
+    pub agrees : Agrees history old before → Agrees history new after
+    pub others : (n : ℕ) (found : PageModel) → n ≢ page
+        → kept after n ≡ Some found → kept before n ≡ Some found
 
 -- A page was taken, or memory ran out, or none was free.
 abbrev pub Refuses : TreeFault → Book → Book → Type 0

@@ -2,7 +2,7 @@
 use Rattle.std.specs.Prelude.{◌≡◌, ◌≢◌, ◌⊎◌, ℕ, ◌+◌, ◌-◌, ◌<◌, ◌≤◌, ◌^◌, true, List, [], ◌++◌}
 use Rattle.std.specs.Prelude.{Result, Err, OnOk, OnErr}
 use Rattle.page.specs.History.{History, KeepsWord}
-use Rattle.page.specs.Crash.{GoesOn, LeavesOnly, LeavesNow}
+use Rattle.page.specs.Crash.{ExtendsHistory, LeavesOnly, CrashLeaves}
 use Rattle.freelist.specs.Book.{Book, is_in_use, refused}
 use Rattle.freelist.specs.ListWriting.{HasNoRoom}
 use Rattle.btree.specs.Keys.{Entry, times}
@@ -50,13 +50,13 @@ ListsUnused root book =
 -- How often a page was asked for and none was free: never fewer, and more often only at Full.
 pub record CountsTakes {D : Type 0} (result : Result (Unit {0}) CommitFault)
     (old new : State D) : Type 0 where
-  pub grows : old.book.full_takes ≤ new.book.full_takes
-  pub same : result ≢ Err faults.Full → new.book.full_takes ≡ old.book.full_takes
+  pub grows : old.book.failed_allocations ≤ new.book.failed_allocations
+  pub same : result ≢ Err faults.Full → new.book.failed_allocations ≡ old.book.failed_allocations
 
 -- A turn was committed with this root page, or not.
-pub record Commits {D : Type 0} (history : D → History) (root : ℕ)
+pub record CommitsPages {D : Type 0} (history : D → History) (root : ℕ)
     (result : Result (Unit {0}) CommitFault) (old new : State D) : Type 0 where
-  pub on : GoesOn (pager_history history old) (pager_history history new)
+  pub extends : ExtendsHistory (pager_history history old) (pager_history history new)
   pub running : OnOk result (IsRunning old.store × IsRunning new.store)
   pub version : OnOk result
       ((durable_root new.store).generation ≡ (durable_root old.store).generation + 1)
@@ -93,7 +93,7 @@ pub record Moves {D : Type 0} (history : D → History) (pages : List ℕ) (befo
     (result : Result (Unit {0}) CommitFault) (old new : State D) : Type 0 where
   pub any_moment : LeavesOnly (pager_history history old) (pager_history history new)
       (λ image. StandsFor image before ⊎ StandsFor image after)
-  pub acknowledged : OnOk result (LeavesNow (pager_history history new)
+  pub acknowledged : OnOk result (CrashLeaves (pager_history history new)
       (λ image. StandsFor image after))
   pub begun : OnOk result (IsBegun history new pages after)
 

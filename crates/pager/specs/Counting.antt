@@ -5,7 +5,7 @@ use Rattle.btree.specs.Keys.{Entry}
 use Rattle.btree.specs.Store.{Grows, IsSame}
 use Rattle.freelist.specs.FreeList.{Part}
 use Rattle.roots.specs.Counting.{AreCounts, CountsTree}
-use Rattle.roots.specs.Image.{HasList, reached_by, sheet_at}
+use Rattle.roots.specs.Image.{HasList, reached_by, model_at}
 use Rattle.roots.specs.Store.{durable_root}
 use Rattle.roots.specs.Walk.{HasCause}
 use Rattle.roots.specs.declared.counting.PageCounts.{PageCounts}
@@ -32,6 +32,6 @@ pub record CountsPages {D : Type 0} (history : D → History) (result : Result P
       → IsBegun history start live entries
       → Grows (store_of history start) (store_of history old)
       → let root = durable_root old.store in (parts : List Part)
-      → HasList (sheet_at (reads (now (pager_history history old))) root) root live parts
+      → HasList (model_at (reads (now (pager_history history old))) root) root live parts
       → MatchResult result (AreCounts root (reached_by live parts))
       (λ fault. fault ≢ faults.Damaged)

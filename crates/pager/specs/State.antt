@@ -1,6 +1,6 @@
 -- What a pager is to its callers.
 use Rattle.std.specs.Prelude.{ℕ, List}
-use Rattle.page.specs.Format.{Sheet}
+use Rattle.page.specs.Format.{PageModel}
 use Rattle.freelist.specs.Book.{Book}
 use Rattle.roots.specs.declared.store.Store.{Store}
 
@@ -9,6 +9,6 @@ use Rattle.roots.specs.declared.store.Store.{Store}
 -- are kept in memory are no part of it.
 pub record State (D : Type 0) : Type 0 where
   pub store : Store D
-  pub made : List Sheet
+  pub made : List PageModel
   pub retired : List ℕ
   pub book : Book

@@ -7,7 +7,7 @@ use Rattle.btree.specs.Store.{Grows, IsSame, flag}
 use Rattle.freelist.specs.Book.{Book, is_free, is_in_use, undone}
 use Rattle.freelist.specs.FreeList.{Part}
 use Rattle.freelist.specs.Sound.{waits}
-use Rattle.roots.specs.Image.{HasList, reached_by, sheet_at}
+use Rattle.roots.specs.Image.{HasList, reached_by, model_at}
 use Rattle.roots.specs.Store.{IsCommitted, durable_root}
 use Rattle.roots.specs.Turn.{numbers_of}
 use Rattle.pager.specs.Kept.{IsBookFor}
@@ -33,7 +33,7 @@ pub record IsBegun {D : Type 0} (history : D → History) (p : State D) (live : 
   pub committed : KeepsWord (pager_history history p) → IsCommitted history p.store live entries
   pub in_use : KeepsWord (pager_history history p) → let root = durable_root p.store in
       (parts : List Part)
-      → HasList (sheet_at (reads (now (pager_history history p))) root) root live parts
+      → HasList (model_at (reads (now (pager_history history p))) root) root live parts
       → AreInUse (reached_by live parts) p.book
 
 -- Undoing all that was made and retired since a turn began leads back to a pager that begins with

@@ -2,7 +2,7 @@
 use Rattle.std.specs.Prelude.{ℕ, ◌&&◌, not, List, [], ◌∷◌, ◌++◌, length, reverse, map, Result}
 use Rattle.std.specs.Prelude.{is_ok}
 use Rattle.page.specs.History.{History, now, reads}
-use Rattle.page.specs.Format.{Sheet}
+use Rattle.page.specs.Format.{PageModel}
 use Rattle.page.specs.declared.page_fault.PageFault.{PageFault}
 use Rattle.freelist.specs.Book.{Book, is_free, rewind}
 use Rattle.freelist.specs.Coding.{state_number}
@@ -10,7 +10,7 @@ use Rattle.freelist.specs.declared.states.PageState.{PageState}
 use Rattle.freelist.specs.declared.turns.Retirement.{Retirement}
 use Rattle.btree.specs.Store.{Store, flag}
 use Rattle.roots.specs.declared.root.Root.{Root}
-use Rattle.roots.specs.Image.{content_in, sheet_at}
+use Rattle.roots.specs.Image.{content_in, model_at}
 use Rattle.roots.specs.Store.{disk_history, durable_root, failed_reads, is_stopped}
 use Rattle.roots.specs.Turn.{made_or, numbers_of}
 use Rattle.pager.specs.State.{State}
@@ -21,9 +21,9 @@ pager_history history p = disk_history history p.store
 
 -- the page of this number: one that the turn made, or what the disk holds under the root that is
 -- committed
-abbrev pub sheets_of : {D : Type 0} → (D → History) → State D → ℕ → Result Sheet PageFault
-sheets_of history p n =
-    made_or p.made n (sheet_at (reads (now (pager_history history p))) (durable_root p.store) n)
+abbrev pub models_of : {D : Type 0} → (D → History) → State D → ℕ → Result PageModel PageFault
+models_of history p n =
+    made_or p.made n (model_at (reads (now (pager_history history p))) (durable_root p.store) n)
 
 abbrev pub root_numbers : Root → List ℕ
 root_numbers root =
@@ -53,10 +53,10 @@ abbrev pub store_of : {D : Type 0} → (D → History) → State D → Store
 store_of history p = record {
   history = pager_history history p;
   base = base_of p;
-  page = λ n. content_in (sheets_of history p n);
-  live = λ n. is_ok (sheets_of history p n) && not (is_free p.book.states n);
+  page = λ n. content_in (models_of history p n);
+  live = λ n. is_ok (models_of history p n) && not (is_free p.book.states n);
   made = reverse (numbers_of p.made);
   retired = reverse p.retired;
-  full_takes = p.book.full_takes;
+  failed_allocations = p.book.failed_allocations;
   failed_reads = failed_reads p.store;
 }

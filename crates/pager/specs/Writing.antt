@@ -3,7 +3,7 @@ use Rattle.std.specs.Prelude.{◌≡◌, ◌⊎◌, ℕ, ◌&&◌, ◌||◌, Lis
 use Rattle.std.specs.List.{filter}
 use Rattle.page.specs.Cache.{kept}
 use Rattle.page.specs.Content.{is_of_tree}
-use Rattle.page.specs.Format.{Sheet}
+use Rattle.page.specs.Format.{PageModel}
 use Rattle.page.specs.declared.page_cache.PageCache.{PageCache}
 use Rattle.btree.specs.Keys.{times}
 use Rattle.freelist.specs.Book.{Book, is_in_use, is_pinned, retired}
@@ -15,21 +15,21 @@ retired_all version (page ∷ pages) book = retired_all version pages (retired p
 
 -- The pages that are written, once the others of the turn were retired at this version: those that
 -- are in use, and those that wait since a pin keeps them, as far as a tree may have them.
-abbrev pub written_of : ℕ → Book → List Sheet → List Sheet
+abbrev pub written_of : ℕ → Book → List PageModel → List PageModel
 written_of version book made =
-    filter (λ sheet. is_of_tree sheet.content
-    && (is_in_use book.states sheet.page || is_pinned book.pins version)) made
+    filter (λ model. is_of_tree model.content
+    && (is_in_use book.states model.page || is_pinned book.pins version)) made
 
-abbrev pub IsAmong : Sheet → List Sheet → Type 0
-IsAmong sheet [] = ⊥
-IsAmong sheet (other ∷ others) = (sheet ≡ other) ⊎ IsAmong sheet others
+abbrev pub IsAmong : PageModel → List PageModel → Type 0
+IsAmong model [] = ⊥
+IsAmong model (other ∷ others) = (model ≡ other) ⊎ IsAmong model others
 
 -- what is kept was kept before, or is one of these pages
-abbrev pub KeepsAll : List Sheet → PageCache → PageCache → Type 0
-KeepsAll pages before after = (n : ℕ) (found : Sheet) → kept after n ≡ Some found
+abbrev pub KeepsAll : List PageModel → PageCache → PageCache → Type 0
+KeepsAll pages before after = (n : ℕ) (found : PageModel) → kept after n ≡ Some found
     → (kept before n ≡ Some found) ⊎ ((found.page ≡ n) × IsAmong found pages)
 
 -- what is kept was kept before, and is none of these pages
 abbrev pub Forgets : List ℕ → PageCache → PageCache → Type 0
-Forgets pages before after = (n : ℕ) (found : Sheet) → kept after n ≡ Some found
+Forgets pages before after = (n : ℕ) (found : PageModel) → kept after n ≡ Some found
     → (kept before n ≡ Some found) × (times n pages ≡ 0)

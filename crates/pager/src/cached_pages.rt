@@ -23,7 +23,7 @@ fn tree_fault(fault: OpenFault) -> TreeFault
 pub(crate) fn keep_page(cache: &mut PageCache, page: u32, shared: &SharedPage)
     ensures { Keeps page shared.now cache.old cache.new }
 {
-    if let Ok(more) = shared.share() {
+    if let Ok(more) = shared.clone_ref() {
         cache.put(page, more);
     }
 }

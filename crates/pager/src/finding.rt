@@ -1,7 +1,7 @@
 //! Pages among those that a turn made.
 ghost use Rattle.std.specs.Prelude.{◌≡◌, ◌≢◌, Result, Ok, MatchOption};
 ghost use Rattle.std.specs.List.{AllByRecursion};
-ghost use Rattle.page.specs.Format.{Sheet};
+ghost use Rattle.page.specs.Format.{PageModel};
 ghost use Rattle.page.specs.declared.page_fault.PageFault.{PageFault};
 ghost use Rattle.roots.specs.Turn.{made_or};
 ghost use Rattle.pager.specs.Order.{IsOrderOf, StandsAt};
@@ -35,8 +35,8 @@ pub(crate) fn find_page<'a>(
 ) -> Option<&'a SharedPage>
     requires { IsOrderOf made.now places.now }
     ensures { MatchOption result
-        (AllByRecursion (λ (sheet : Sheet). sheet.page ≢ page) made.now)
-        (λ shared. (other : Result Sheet PageFault)
+        (AllByRecursion (λ (model : PageModel). model.page ≢ page) made.now)
+        (λ shared. (other : Result PageModel PageFault)
         → made_or made.now page other ≡ Ok shared.now) }
 {
     let at = find_place(made, places, page);

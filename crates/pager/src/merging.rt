@@ -10,7 +10,7 @@ fn put_all(pages: &mut Vec<SharedPage>, more: &[SharedPage]) -> Result<(), Alloc
     ensures { OnOk result (pages.new.items ≡ pages.old.items ++ more.now) }
 {
     for shared in more {
-        pages.push(shared.share()?)?;
+        pages.push(shared.clone_ref()?)?;
     }
     Ok(())
 }
@@ -28,10 +28,10 @@ pub(crate) fn merge(
     let mut j = 0;
     while i < one.len() && j < other.len() {
         if one[i].image().page < other[j].image().page {
-            pages.push(one[i].share()?)?;
+            pages.push(one[i].clone_ref()?)?;
             i += 1;
         } else {
-            pages.push(other[j].share()?)?;
+            pages.push(other[j].clone_ref()?)?;
             j += 1;
         }
     }

@@ -55,10 +55,10 @@ impl<D: Disk> Pager<D> {
     ghost use Rattle.roots.specs.Store.{durable_root, failed_reads, is_stopped};
     ghost use Rattle.pager.specs.Asking.{OnlyWrites};
     ghost use Rattle.pager.specs.Capacity.{TreesFit};
-    ghost use Rattle.pager.specs.Commit.{Commits, CountsTakes, MovesTurns};
+    ghost use Rattle.pager.specs.Commit.{CommitsPages, CountsTakes, MovesTurns};
     ghost use Rattle.pager.specs.Counting.{CountsPages};
     ghost use Rattle.pager.specs.Limit.{IsWithinLimit, LimitStays, limit_of};
-    ghost use Rattle.pager.specs.Opening.{HasLimit, IsOpened, IsRefused};
+    ghost use Rattle.pager.specs.Opening.{HasLimit, IsPagerOpened, IsPagerRefused};
     ghost use Rattle.pager.specs.Pinning.{KeepsOlder, KeepsVersions, Pins, Unpins, VersionsStay};
     ghost use Rattle.pager.specs.State.{State};
     ghost use Rattle.pager.specs.Trusting.{trusting_pager};
@@ -69,9 +69,9 @@ impl<D: Disk> Pager<D> {
     /// reads the list of free pages, and of the tree the root page alone, where the root names a list; each
     /// page of the tree where it names none. An `Err` hands the disk back.
     pub fn open(alloc: Global, disk: D, limit: u32) -> Result<Pager<D>, (D, OpenFault)>
-        ensures opened { IfOk result (IsOpened D.history disk) }
+        ensures opened { IfOk result (IsPagerOpened D.history disk) }
         ensures limit { IfOk result (HasLimit limit) }
-        ensures refused { IfErr result (λ e. IsRefused D.history disk e.0 e.1) }
+        ensures refused { IfErr result (λ e. IsPagerRefused D.history disk e.0 e.1) }
     {
         let mut store = match Store::open(disk) {
             Ok(store) => store,
@@ -150,10 +150,10 @@ impl<D: Disk> Pager<D> {
     }
 
     /// How often a page was asked for and none was free, as far as a u64 counts.
-    pub fn full_takes(&self) -> u64
-        ensures { result ≡ self.now.book.full_takes }
+    pub fn failed_allocations(&self) -> u64
+        ensures { result ≡ self.now.book.failed_allocations }
     {
-        self.book.full_takes()
+        self.book.failed_allocations()
     }
 
     /// Each page of the turn's tree is one of the file's and is reached once, so the tree has few entries.
@@ -247,7 +247,7 @@ impl<D: Disk> Pager<D> {
     /// retired is free from then on, and so are the pages of the list that the last root named. `Full` where
     /// no page is free for the list. An `Err` leaves the turn, to be undone. It reads nothing.
     pub fn commit(&mut self, root: u32) -> Result<(), CommitFault>
-        ensures commits { Commits D.history root result self.old self.new }
+        ensures commits { CommitsPages D.history root result self.old self.new }
         ensures takes { CountsTakes result self.old self.new }
         ensures calls { OnlyWrites D.history result self.old self.new }
         ensures moves { MovesTurns D.history root result self.old self.new }
@@ -294,12 +294,12 @@ impl<D: Disk> Pages for Pager<D> {
 
     fn read(&mut self, page: u32) -> Result<SharedPage, TreeFault> {
         if let Some(shared) = find_page(&self.made, &self.places, page) {
-            return Ok(shared.share()?);
+            return Ok(shared.clone_ref()?);
         }
         read_page(self.alloc, &mut self.store, &mut self.cache, page)
     }
 
-    fn fresh(&mut self, content: PageContent) -> Result<u32, TreeFault> {
+    fn allocate(&mut self, content: PageContent) -> Result<u32, TreeFault> {
         self.made.reserve(1)?;
         self.places.reserve(1)?;
         let generation = self.store.root().generation.saturating_add(1);

@@ -3,7 +3,7 @@ ghost use Rattle.std.specs.Prelude.{◌≡◌, ◌<◌, ◌≤◌, ◌++◌, ◌
 ghost use Rattle.std.specs.List.{AllByRecursion};
 ghost use Rattle.freelist.specs.Book.{undone};
 ghost use Rattle.freelist.specs.FreeList.{first_page, written};
-ghost use Rattle.roots.specs.Listed.{list_sheets};
+ghost use Rattle.roots.specs.Listed.{list_models};
 ghost use Rattle.pager.specs.Order.{merged, pages_at};
 ghost use Rattle.pager.specs.Planning.{FallsBack, IsPlanned, PlanFails};
 ghost use Rattle.pager.specs.Writing.{retired_all};
@@ -12,7 +12,7 @@ use crate::merging::merge;
 use crate::writing::{pages_to_write, retire_all};
 use freelist::{FreeList, FreePages, NoMemory};
 use page::SharedPage;
-use roots::{CommitFault, Root, end_of, list_sheets};
+use roots::{CommitFault, Root, end_of, list_models};
 use std::alloc::{AllocError, Global};
 
 /// What a commit writes.
@@ -53,15 +53,15 @@ fn with_list(
 ) -> Result<Plan, AllocError>
     ensures written { let parts = written list.pages.items list.named.items in
         IfOk result (λ plan.
-        plan.written.items ≡ merged tree.items (list_sheets generation parts)) }
+        plan.written.items ≡ merged tree.items (list_models generation parts)) }
     ensures listed { IfOk result (λ plan. plan.listed.items ≡ list.pages.items) }
     ensures first { let parts = written list.pages.items list.named.items in
         IfOk result (λ plan. plan.free_list ≡ first_page parts) }
     ensures count { IfOk result (λ plan.
         plan.free_count ≡ min (length list.named.items) (2 ^ 32 - 1)) }
 {
-    let sheets = list_sheets(alloc, &list, generation)?;
-    let written = merge(alloc, &tree, &sheets)?;
+    let models = list_models(alloc, &list, generation)?;
+    let written = merge(alloc, &tree, &models)?;
     Ok(Plan {
         written,
         free_list: list.pages.first().copied().unwrap_or(0),

@@ -2,7 +2,7 @@
 ghost use Rattle.std.specs.Prelude.{◌≡◌, nat_lt, Some, IfOk, IfErr};
 ghost use Rattle.std.specs.List.{filter};
 ghost use Rattle.freelist.specs.Book.{Takes};
-ghost use Rattle.page.specs.Format.{IsFit, Sheet};
+ghost use Rattle.page.specs.Format.{IsFit, PageModel};
 ghost use Rattle.btree.specs.View.{content_in};
 ghost use Rattle.pager.specs.Calls.{Refuses};
 

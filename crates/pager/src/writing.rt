@@ -3,7 +3,7 @@ ghost use Rattle.std.specs.Prelude.{◌≡◌, ◌<◌, ◌≤◌, IfOk, OnOk, l
 ghost use Rattle.std.specs.List.{AllByRecursion};
 ghost use Rattle.freelist.specs.Book.{undone};
 ghost use Rattle.page.specs.Content.{IsContent};
-ghost use Rattle.page.specs.Format.{Sheet};
+ghost use Rattle.page.specs.Format.{PageModel};
 ghost use Rattle.pager.specs.Order.{pages_at};
 ghost use Rattle.pager.specs.Writing.{Forgets, KeepsAll, retired_all, written_of};
 
@@ -39,7 +39,7 @@ pub(crate) fn pages_to_write(
     ensures written { IfOk result (λ v.
         v.items ≡ written_of version book.now (pages_at made.now places.now)) }
     ensures content { IfOk result (λ v.
-        AllByRecursion (λ (sheet : Sheet). IsContent sheet.content) v.items) }
+        AllByRecursion (λ (model : PageModel). IsContent model.content) v.items) }
 {
     let mut written = Vec::new(alloc);
     let keeps = book.keeps(version);
@@ -47,7 +47,7 @@ pub(crate) fn pages_to_write(
         let shared = &made[*place as usize];
         let image = shared.image();
         if image.is_of_tree() && (book.is_in_use(image.page) || keeps) {
-            written.push(shared.share()?)?;
+            written.push(shared.clone_ref()?)?;
         }
     }
     Ok(written)

@@ -82,27 +82,27 @@ module _ {D : Type 0} (history : D → History) where
 
       pub ended_fewer : (pinned : Option Version) → Some pinned ≡ given_back held (first_ended ends held) → after ≡ left held (first_ended ends held)
           → length after.list < length held.list
-      ended_fewer pinned given goes =
+      ended_fewer pinned given continues =
           let it = first_at pinned (first_ended ends held) refl given in
-          let shorter : length after.list ≡ length (without held it.0).list = ap (λ (h : Held). length h.list) (goes ∙ ap (left held) it.1) in
+          let shorter : length after.list ≡ length (without held it.0).list = ap (λ (h : Held). length h.list) (continues ∙ ap (left held) it.1) in
           omega (arith, one_fewer ends held it.0 it.1, shorter)
 
       pub ended_on : (file new : State D) (pinned : Option Version) → HasEnded file held → Some pinned ≡ given_back held (first_ended ends held)
           → after ≡ left held (first_ended ends held) → EndsPin history pinned file new → HasEnded new after
-      ended_on file new pinned so_far given goes unpins =
+      ended_on file new pinned so_far given continues unpins =
           let it = first_at pinned (first_ended ends held) refl given in
           record {
-            others_are = ap (others ends) goes ∙ others_left ends held ∙ so_far.others_are;
+            others_are = ap (others ends) continues ∙ others_left ends held ∙ so_far.others_are;
             releases = λ changed. releases_further changed start file new first held after (so_far.releases changed)
-                (releases_one changed file new held after it.0 pinned it.2 it.3 (goes ∙ ap (left held) it.1) unpins);
+                (releases_one changed file new held after it.0 pinned it.2 it.3 (continues ∙ ap (left held) it.1) unpins);
           }
 
       -- None was left that is to end.
       pub ended_last : (file : State D) → HasEnded file held → None ≡ given_back held (first_ended ends held) → after ≡ left held (first_ended ends held)
           → (after ≡ others ends first) × ((changed : Bool) → Releases changed history start file first after)
-      ended_last file so_far given goes =
+      ended_last file so_far given continues =
           let none : first_ended ends held ≡ None = at_none (first_ended ends held) given in
-          let same : after ≡ held = goes ∙ ap (left held) none in (
+          let same : after ≡ held = continues ∙ ap (left held) none in (
             same ∙ sym (none_left ends held none) ∙ so_far.others_are,
             λ changed. subst (λ (h : Held). Releases changed history start file first h) (sym same) (so_far.releases changed),
           )

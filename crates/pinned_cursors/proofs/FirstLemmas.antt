@@ -11,7 +11,7 @@ use Rattle.btree.specs.Keys.{times}
 use Rattle.pager.specs.declared.version.Version.{Version}
 use Rattle.path.specs.declared.refusal.Refusal.{Refusal}
 use Rattle.path.specs.declared.refusal.Refusal.TheVariants as refusals
-use Rattle.collections.specs.Calls.{GoesFrom, HasReadCause, HasFailed, IsUnchanged}
+use Rattle.collections.specs.Calls.{ExtendsTurn, HasReadCause, HasFailed, IsUnchanged}
 use Rattle.collections.specs.Standing.{HasState}
 use Rattle.collections.specs.State.{State}
 use Rattle.collections.specs.Versions.{PinsNow, ReadsVersion, UnpinsVersion}
@@ -77,7 +77,7 @@ module _ {A : Type 0} where
 -- A batch was read of what a walk is to give.
 pub record ReadsBatch {D : Type 0} (history : D → History) (w : HeldWalk) (documents : List Pairs) (asked : BatchAsked) (result : Result GivenBatch Refusal)
     (old new : State D) : Type 0 where
-  pub on : GoesFrom history old new
+  pub extends : ExtendsTurn history old new
   pub unchanged : IsUnchanged history old new
   pub same : (start now : List Collection) → HasState history old start now → HasState history new start now
   pub answers : KeepsWord (disk_history history new) → ReadsRest true history old w documents
@@ -93,7 +93,7 @@ module _ {D : Type 0} (history : D → History) (version : Version) (number : �
       → ReadsVersion history version (AreListedIn number texts) (λ now chosen b. IsListedBatch asked (given_of p chosen) b) result old new
       → ReadsBatch history its_list documents asked result old new
   listed_batch asked result reads = record {
-    on = reads.on;
+    extends = reads.extends;
     unchanged = reads.unchanged;
     same = reads.same;
     answers = λ k r.
@@ -104,11 +104,11 @@ module _ {D : Type 0} (history : D → History) (version : Version) (number : �
         (record { numbered = r.numbered; stored = r.stored; listed = l.there }));
   }
 
-  pub behind_left : (passing : Bool) (n : ℕ) → GoesFrom history old new → ReadsRest passing history old its_list documents
+  pub behind_left : (passing : Bool) (n : ℕ) → ExtendsTurn history old new → ReadsRest passing history old its_list documents
       → ReadsRest passing history new (held_walk version number p (listed (drop n texts))) (drop n documents)
-  behind_left passing n goes r = record {
+  behind_left passing n continues r = record {
     collections = r.collections;
-    had = keeps_on history old new goes passing version r.collections r.had;
+    had = keeps_on history old new continues passing version r.collections r.had;
     home = r.home;
     numbered = r.numbered;
     stored = r.stored;
@@ -121,7 +121,7 @@ module _ {D : Type 0} (history : D → History) (version : Version) (number : �
   pub in_order_batch : (result : Result GivenBatch Refusal) → ReadsOrdered history version number w asked old new result
       → ReadsBatch history (walks_in_order history version number w asked old new) documents asked result old new
   in_order_batch result reads = record {
-    on = reads.on;
+    extends = reads.extends;
     unchanged = reads.unchanged;
     same = reads.same;
     answers = λ k r. at result r (ordered_there history version number w asked old new documents true r result reads k);
@@ -139,7 +139,7 @@ module _ {D : Type 0} (history : D → History) (version : Version) (number : �
       → ReadsRest passing history new (held_walk version number w.projection.now (further b.count text.items (way_in_order w))) (drop b.count documents)
   behind_in_order b text is reads passing k r =
       others_in_order history version number w asked old new documents passing r b
-      (ordered_there history version number w asked old new documents passing r (Ok b) reads k) reads.on text is
+      (ordered_there history version number w asked old new documents passing r (Ok b) reads k) reads.extends text is
 
 module _ {D : Type 0} (history : D → History) (version : Version) (number : ℕ) (p : Projection) (way : Way) (documents : List Pairs)
     (old new : State D) where
@@ -161,7 +161,7 @@ module _ {D : Type 0} (history : D → History) (version : Version) (number : �
         → HasReadCause history old new e ⊎ IsNoBatch (table_of held) connection documents most e)
         → Gives (Err e) after
     gives_none q reads e after same cause = record {
-      on = reads.on;
+      extends = reads.extends;
       unchanged = reads.unchanged;
       same = reads.same;
       err = same;
@@ -192,7 +192,7 @@ module _ {D : Type 0} (history : D → History) (version : Version) (number : �
 
       pub pinned_whole : b.next ≡ None → Gives (Ok (record { reply = b.reply; is_open = false })) held
       pinned_whole none = record {
-        on = reads.on;
+        extends = reads.extends;
         unchanged = reads.unchanged;
         same = reads.same;
         err = tt;
@@ -230,14 +230,14 @@ module _ {D : Type 0} (history : D → History) (version : Version) (number : �
             → after ≡ opened held connection namespace (drop b.count documents) (Some (held_walk version number p behind))
             → Gives (Ok (record { reply = b.reply; is_open = true })) after
         pinned_open behind others number_is below free after same =
-            let on : HeldWalk = held_walk version number p behind in
-            let h : HeldCursor = record { cursor = new_cursor held.next connection namespace (drop b.count documents); walk = Some on } in
+            let extends : HeldWalk = held_walk version number p behind in
+            let h : HeldCursor = record { cursor = new_cursor held.next connection namespace (drop b.count documents); walk = Some extends } in
             record {
-              on = reads.on;
+              extends = reads.extends;
               unchanged = reads.unchanged;
               same = reads.same;
               err = tt;
-              keep = ap that_keep same ∙ opened_keeps held connection namespace (drop b.count documents) on;
+              keep = ap that_keep same ∙ opened_keeps held connection namespace (drop b.count documents) extends;
               answers = λ k r. let batch = there k r in
                   record {
                     n = b.count;
@@ -248,23 +248,23 @@ module _ {D : Type 0} (history : D → History) (version : Version) (number : �
                       below = λ _. below;
                     };
                     whole = λ all. absurd (omega (arith, all, more batch));
-                    opened = λ _. ap table_of same ∙ opened_in_table held connection namespace (drop b.count documents) (Some on);
+                    opened = λ _. ap table_of same ∙ opened_in_table held connection namespace (drop b.count documents) (Some extends);
                   };
               pin = λ changed rest tied. subst (λ (x : Held). AreTied changed history new x.list) (sym same)
-                  (tied_opened history changed new held.list h on refl tied (λ running k. others changed k (rest running k)));
+                  (tied_opened history changed new held.list h extends refl tied (λ running k. others changed k (rest running k)));
             }
 
 -- ---- the pin around it
 
 module _ {D : Type 0} (history : D → History) where
   -- Cursors, and a pin beside them, stay tied where commands read.
-  pub beside_on : (changed : Bool) (old new : State D) (version : Version) (list : List HeldCursor) → GoesFrom history old new
+  pub beside_on : (changed : Bool) (old new : State D) (version : Version) (list : List HeldCursor) → ExtendsTurn history old new
       → TiedBeside changed history old version list → TiedBeside changed history new version list
-  beside_on changed old new version list goes tied = record {
+  beside_on changed old new version list continues tied = record {
     each = λ running k.
-        each_on history changed old new (pins_by list) (λ p v cs had some. keeps_on history old new goes p v cs had) list (λ n. omega arith)
-        (tied.each (sym (stopped_same history old.pager new.pager goes.stays) ∙ running) (goes.stays.reads.on.kept k));
-    pins = λ n. ap (times n) (pins_stay history old new goes) ∙ tied.pins n;
+        each_on history changed old new (pins_by list) (λ p v cs had some. keeps_on history old new continues p v cs had) list (λ n. omega arith)
+        (tied.each (sym (stopped_same history old.pager new.pager continues.stays) ∙ running) (continues.stays.reads.extends.kept k));
+    pins = λ n. ap (times n) (pins_stay history old new continues) ∙ tied.pins n;
   }
 
   -- What came between two moments came between others, but for whose pins nothing went on.
@@ -287,7 +287,7 @@ module _ {D : Type 0} (history : D → History) (connection : ℕ) (namespace : 
   first_none e cause new same = subst (λ (file : State D). Firsts (Err e) file held) (sym same) (record {
     pinned = old;
     first = no_pins history old;
-    goes = nothing_read history old;
+    continues = nothing_read history old;
     err = refl;
     keep = refl;
     answers = λ k left. inl cause;
@@ -307,7 +307,7 @@ module _ {D : Type 0} (history : D → History) (connection : ℕ) (namespace : 
 
     module _ (result : Result FirstGiven Refusal) (after : Held) (gives : Pinned result after) where
       word : KeepsWord (disk_history history read) → KeepsWord (disk_history history old)
-      word k = subst KeepsWord only.untouched.disk (gives.on.stays.reads.on.kept k)
+      word k = subst KeepsWord only.untouched.disk (gives.extends.stays.reads.extends.kept k)
 
       there_left : (changed : Bool) → Tells changed old → KeepsWord (disk_history history read)
           → (KeepsWord (disk_history history old) → IsLeftOf history old number p way documents) → ReadsRest changed history pinned its_walk documents
@@ -321,10 +321,10 @@ module _ {D : Type 0} (history : D → History) (connection : ℕ) (namespace : 
 
       beside : (changed : Bool) → AreTied changed history old held.list → TiedBeside changed history read version held.list
       beside changed tied =
-          beside_on history changed pinned read version held.list gives.on (tied_pinned history changed old pinned version held.list pin tied)
+          beside_on history changed pinned read version held.list gives.extends (tied_pinned history changed old pinned version held.list pin tied)
 
       then_pins : (new : State D) → OnlyPins history read new → ReadsThenPins history pinned new
-      then_pins new pins = record { read = read; on = gives.on; unchanged = gives.unchanged; same = gives.same; pins = pins }
+      then_pins new pins = record { read = read; extends = gives.extends; unchanged = gives.unchanged; same = gives.same; pins = pins }
 
     -- Nothing was given, and the pin ended.
     pub first_spared : (after : Held) → PinnedNone history pinned read held after → (new : State D) → UnpinsVersion history version read new
@@ -333,11 +333,18 @@ module _ {D : Type 0} (history : D → History) (connection : ℕ) (namespace : 
         record {
           pinned = pinned;
           first = only;
-          goes = record { read = read; on = none.on; unchanged = none.unchanged; same = none.state; pins = pins_of_stays history read new unpin.stays };
+          continues = record {
+            read = read;
+            extends = none.extends;
+            unchanged = none.unchanged;
+            same = none.state;
+            pins = pins_of_stays history read new
+                unpin.stays;
+          };
           same = none.same;
           tied = λ changed tied. subst (λ (x : Held). AreTied changed history new x.list) (sym none.same)
               (tied_unpinned history changed read new version held.list unpin
-              (beside_on history changed pinned read version held.list none.on (tied_pinned history changed old pinned version held.list pin tied)));
+              (beside_on history changed pinned read version held.list none.extends (tied_pinned history changed old pinned version held.list pin tied)));
         }
 
     -- It was refused, and the pin ended.
@@ -348,7 +355,7 @@ module _ {D : Type 0} (history : D → History) (connection : ℕ) (namespace : 
         record {
           pinned = pinned;
           first = only;
-          goes = then_pins (Err e) after gives new ends;
+          continues = then_pins (Err e) after gives new ends;
           err = gives.err;
           keep = gives.keep;
           answers = λ k left.
@@ -370,7 +377,7 @@ module _ {D : Type 0} (history : D → History) (connection : ℕ) (namespace : 
       first_open is = record {
         pinned = pinned;
         first = only;
-        goes = then_pins (Ok g) after gives read (no_pins history read);
+        continues = then_pins (Ok g) after gives read (no_pins history read);
         err = tt;
         keep = gives.keep;
         answers = λ k left. gives.answers k (there_now (Ok g) after gives k (λ _. left));
@@ -387,7 +394,7 @@ module _ {D : Type 0} (history : D → History) (connection : ℕ) (namespace : 
           record {
             pinned = pinned;
             first = only;
-            goes = then_pins (Ok g) after gives new ends;
+            continues = then_pins (Ok g) after gives new ends;
             err = tt;
             keep = gives.keep;
             answers = λ k left.

@@ -30,7 +30,7 @@ no_walk (Some w) keeps is true_is = absurd (no (sym true_is ∙ is))
 
 module _ {D : Type 0} (history : D → History) (file : State D) (held : Held) (at : ℕ) (namespace : List ℕ) (most : Option ℕ) where
   pub kept_refused : (e : Refusal) → e ≡ refusals.OutOfMemory → GivesNext history at namespace most (Err e) file file held held
-  kept_refused e is = record { goes = nothing_read history file; err = refl; answers = λ k changed tied. inl is; tied = λ changed tied. tied }
+  kept_refused e is = record { continues = nothing_read history file; err = refl; answers = λ k changed tied. inl is; tied = λ changed tied. tied }
 
   module _ (none : (held_at held at).walk ≡ None) (there : at < length held.list) (count : ℕ) where
     abbrev its : Cursor
@@ -61,7 +61,7 @@ module _ {D : Type 0} (history : D → History) (file : State D) (held : Held) (
           → table_of new ≡ record (table_of held) { list = advanced (cursors_of held) at count }
           → GivesNext history at namespace most (Ok reply) file file held new
       kept_given reply counted says table = record {
-        goes = nothing_read history file;
+        continues = nothing_read history file;
         err = tt;
         answers = λ k changed tied. record {
           says = says ∙ ap (λ (n : ℕ). ok_reply (batch_reply (codes "nextBatch") n (cursor_at cs at).rest (cursor_at cs at).number namespace)) counted

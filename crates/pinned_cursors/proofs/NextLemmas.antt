@@ -9,7 +9,7 @@ use Rattle.bson.specs.Tree.{Pairs}
 use Rattle.page.specs.History.{History, KeepsWord}
 use Rattle.path.specs.declared.refusal.Refusal.{Refusal}
 use Rattle.path.specs.declared.refusal.Refusal.TheVariants as refusals
-use Rattle.collections.specs.Calls.{GoesFrom, HasReadCause, IsUnchanged}
+use Rattle.collections.specs.Calls.{ExtendsTurn, HasReadCause, IsUnchanged}
 use Rattle.collections.specs.Standing.{HasState}
 use Rattle.collections.specs.State.{State}
 use Rattle.collections.specs.Versions.{ReadsVersion}
@@ -81,13 +81,13 @@ pub record AsksNext (h : HeldCursor) (namespace : List ℕ) (most : ℕ) (asked 
 module _ {D : Type 0} (history : D → History) (h : HeldCursor) (w : HeldWalk) (is : h.walk ≡ Some w) (namespace : List ℕ) (most : ℕ) (asked : BatchAsked)
     (asks : AsksNext h namespace most asked) (old new : State D) where
   -- what is right of what the walk is still to give
-  reads_of : (result : Result GivenBatch Refusal) → GoesFrom history old new → IsUnchanged history old new
+  reads_of : (result : Result GivenBatch Refusal) → ExtendsTurn history old new → IsUnchanged history old new
       → ((s t : List Collection) → HasState history old s t → HasState history new s t)
       → (KeepsWord (disk_history history new) → (passing : Bool) → ReadsRest passing history old w h.cursor.rest
       → MatchResult result (IsNextBatch passing history new h w namespace most) (HasReadCause history old new))
       → ReadsAt history h namespace most result old new
-  reads_of result on unchanged same right = record {
-    on = on;
+  reads_of result extends unchanged same right = record {
+    extends = extends;
     unchanged = unchanged;
     same = same;
     answers = λ k v there passing r.
@@ -101,7 +101,7 @@ module _ {D : Type 0} (history : D → History) (h : HeldCursor) (w : HeldWalk) 
 
   -- ---- by its walk
 
-  module _ (walk : Walk) (its : IsWalkOf w walk) (goes : GoesFrom history old new) where
+  module _ (walk : Walk) (its : IsWalkOf w walk) (continues : ExtendsTurn history old new) where
     left_by : (home : Collection) (rest : List Pairs) → IsLeftBy w.way w.projection home rest → rest ≡ rest_of walk home.documents
     left_by home rest left =
         subst (λ (x : Way). IsLeftBy x w.projection home rest) its.way left
@@ -126,15 +126,15 @@ module _ {D : Type 0} (history : D → History) (h : HeldCursor) (w : HeldWalk) 
         by_next None none =
             let left : rest_of walk r.home.documents ≡ h.cursor.rest = sym (left_by r.home h.cursor.rest r.left) in
             subst (λ (xs : List Pairs). length xs ≤ b.count) left none
-        by_next (Some text) on =
+        by_next (Some text) extends =
             let left : rest_of walk r.home.documents ≡ h.cursor.rest = sym (left_by r.home h.cursor.rest r.left) in
             let behind : drop b.count h.cursor.rest ≡ walk_rest walk.filter.now w.projection 0 (walk.limit - b.count) text.items r.home.documents =
-            ap (drop b.count) (sym left) ∙ sym on.left
+            ap (drop b.count) (sym left) ∙ sym extends.left
             ∙ (λ i. walk_rest walk.filter.now (its.projection i) 0 (walk.limit - b.count) text.items r.home.documents) in (
-              subst (λ (xs : List Pairs). b.count < length xs) left on.more,
+              subst (λ (xs : List Pairs). b.count < length xs) left extends.more,
               record {
                 collections = r.collections;
-                had = keeps_on history old new goes passing w.version r.collections r.had;
+                had = keeps_on history old new continues passing w.version r.collections r.had;
                 home = r.home;
                 numbered = r.numbered;
                 stored = r.stored;
@@ -146,7 +146,7 @@ module _ {D : Type 0} (history : D → History) (h : HeldCursor) (w : HeldWalk) 
   pub reads_through : (walk : Walk) → IsWalkOf w walk → (result : Result GivenBatch Refusal)
       → ReadsVersion history w.version (IsAskedIn w.number) (λ now c b. IsGivenBatch walk asked c.documents b) result old new
       → ReadsAt history h namespace most result old new
-  reads_through walk its result reads = reads_of result reads.on reads.unchanged reads.same right
+  reads_through walk its result reads = reads_of result reads.extends reads.unchanged reads.same right
     where
       right : KeepsWord (disk_history history new) → (passing : Bool) → ReadsRest passing history old w h.cursor.rest
           → MatchResult result (IsNextBatch passing history new h w namespace most) (HasReadCause history old new)
@@ -156,7 +156,7 @@ module _ {D : Type 0} (history : D → History) (h : HeldCursor) (w : HeldWalk) 
           at : (q : Result GivenBatch Refusal)
               → MatchResult q (λ b. IsGivenBatch walk asked r.home.documents b) (HasReadCause history old new)
               → MatchResult q (IsNextBatch passing history new h w namespace most) (HasReadCause history old new)
-          at (Ok b) given = next_so walk its reads.on passing r b given
+          at (Ok b) given = next_so walk its reads.extends passing r b given
           at (Err e) cause = cause
 
   -- ---- by its list
@@ -166,7 +166,7 @@ module _ {D : Type 0} (history : D → History) (h : HeldCursor) (w : HeldWalk) 
         → ReadsVersion history w.version (AreListedIn w.number (texts_of list.ids.now))
         (λ now chosen b. IsListedBatch asked (given_of list.projection.now chosen) b) result old new
         → ReadsAt history h namespace most result old new
-    reads_listed its result reads = reads_of result reads.on reads.unchanged reads.same right
+    reads_listed its result reads = reads_of result reads.extends reads.unchanged reads.same right
       where
         right : KeepsWord (disk_history history new) → (passing : Bool) → ReadsRest passing history old w h.cursor.rest
             → MatchResult result (IsNextBatch passing history new h w namespace most) (HasReadCause history old new)
@@ -201,7 +201,7 @@ module _ {D : Type 0} (history : D → History) (h : HeldCursor) (w : HeldWalk) 
                   more,
                   record {
                     collections = r.collections;
-                    had = keeps_on history old new reads.on passing w.version r.collections r.had;
+                    had = keeps_on history old new reads.extends passing w.version r.collections r.had;
                     home = r.home;
                     numbered = r.numbered;
                     stored = r.stored;
@@ -216,10 +216,10 @@ module _ {D : Type 0} (history : D → History) (h : HeldCursor) (w : HeldWalk) 
     abbrev in_order : HeldWalk
     in_order = held_walk w.version w.number walk.projection.now (way_in_order walk)
 
-    next_ordered : (passing : Bool) (r : ReadsRest passing history old in_order h.cursor.rest) (b : GivenBatch) → GoesFrom history old new
+    next_ordered : (passing : Bool) (r : ReadsRest passing history old in_order h.cursor.rest) (b : GivenBatch) → ExtendsTurn history old new
         → IsOrderedBatch (rest_told history w.version w.number walk asked old new h.cursor.rest passing r).sort walk asked r.home.documents b
         → IsNextBatch passing history new h w namespace most b
-    next_ordered passing r b goes given =
+    next_ordered passing r b continues given =
         let batch : IsListedBatch asked h.cursor.rest b =
         batch_is history w.version w.number walk asked old new h.cursor.rest passing r b given in
         record {
@@ -237,12 +237,12 @@ module _ {D : Type 0} (history : D → History) (h : HeldCursor) (w : HeldWalk) 
         by (Some text) is more = (
           more,
           subst (λ (x : HeldWalk). ReadsRest passing history new (onwards b.count text.items x) (drop b.count h.cursor.rest)) (sym same_walk)
-              (others_in_order history w.version w.number walk asked old new h.cursor.rest passing r b given goes text is),
+              (others_in_order history w.version w.number walk asked old new h.cursor.rest passing r b given continues text is),
         )
 
     pub reads_ordered : (result : Result GivenBatch Refusal) → ReadsOrdered history w.version w.number walk asked old new result
         → ReadsAt history h namespace most result old new
-    reads_ordered result reads = reads_of result reads.on reads.unchanged reads.same right
+    reads_ordered result reads = reads_of result reads.extends reads.unchanged reads.same right
       where
         right : KeepsWord (disk_history history new) → (passing : Bool) → ReadsRest passing history old w h.cursor.rest
             → MatchResult result (IsNextBatch passing history new h w namespace most) (HasReadCause history old new)
@@ -255,7 +255,7 @@ module _ {D : Type 0} (history : D → History) (h : HeldCursor) (w : HeldWalk) 
                 → MatchResult q (λ b. IsOrderedBatch (rest_told history w.version w.number walk asked old new h.cursor.rest passing o).sort walk asked
                 o.home.documents b) (HasReadCause history old new)
                 → MatchResult q (IsNextBatch passing history new h w namespace most) (HasReadCause history old new)
-            at (Ok b) o given = next_ordered passing o b reads.on given
+            at (Ok b) o given = next_ordered passing o b reads.extends given
             at (Err e) o cause = cause
 
 -- ---- how many documents
@@ -290,12 +290,12 @@ module _ {D : Type 0} (history : D → History) (old read : State D) (held : Hel
   Read result = ReadsAt history here namespace bound result old read
 
   -- The cursors are tied where they were, and the walk gives what is left.
-  reads_tied : GoesFrom history old read → is_stopped old ≡ false → KeepsWord (disk_history history read) → (changed : Bool)
+  reads_tied : ExtendsTurn history old read → is_stopped old ≡ false → KeepsWord (disk_history history read) → (changed : Bool)
       → AreTied changed history old held.list → ReadsRest changed history old w here.cursor.rest
-  reads_tied goes running k changed tied =
+  reads_tied continues running k changed tied =
       reads_to history (passes changed here) changed old old w here.cursor.rest (has_either history here.cursor.touched changed old w.version)
       (subst (λ (walk : Option HeldWalk). MatchOption walk ⊤ (λ v. ReadsRest (passes changed here) history old v here.cursor.rest)) is
-      (each_at (IsTied changed history old) held.list at no_held_cursor there (tied.each running (goes.stays.reads.on.kept k))))
+      (each_at (IsTied changed history old) held.list at no_held_cursor there (tied.each running (continues.stays.reads.extends.kept k))))
 
   -- as many as a database's definition says
   same_count : (n : ℕ) → n ≡ batch_of bound here.cursor.rest → length here.cursor.rest < 2 ^ 64 → n ≡ batch_len_of here.cursor most
@@ -307,22 +307,22 @@ module _ {D : Type 0} (history : D → History) (old read : State D) (held : Hel
       by_most (Some m) c = c
 
   then_pins : (result : Result GivenBatch Refusal) → Read result → (new : State D) → OnlyPins history read new → ReadsThenPins history old new
-  then_pins result r new pins = record { read = read; on = r.on; unchanged = r.unchanged; same = r.same; pins = pins }
+  then_pins result r new pins = record { read = read; extends = r.extends; unchanged = r.unchanged; same = r.same; pins = pins }
 
   -- ---- what was read is refused
 
   pub gives_refused : (e : Refusal) → is_stopped old ≡ false → Read (Err e) → Gives (Err e) read held
   gives_refused e running r = record {
-    goes = then_pins (Err e) r read (no_pins history read);
+    continues = then_pins (Err e) r read (no_pins history read);
     err = refl;
-    answers = λ k changed tied. r.answers k w is changed (reads_tied r.on running k changed tied);
-    tied = λ changed. tied_on history old read held.list changed r.on;
+    answers = λ k changed tied. r.answers k w is changed (reads_tied r.extends running k changed tied);
+    tied = λ changed. tied_on history old read held.list changed r.extends;
   }
 
   module _ (b : GivenBatch) (running : is_stopped old ≡ false) (r : Read (Ok b)) where
     next : KeepsWord (disk_history history read) → (changed : Bool) → AreTied changed history old held.list
         → IsNextBatch changed history read here w namespace bound b
-    next k changed tied = r.answers k w is changed (reads_tied r.on running k changed tied)
+    next k changed tied = r.answers k w is changed (reads_tied r.extends running k changed tied)
 
     says : (changed : Bool) (n : IsNextBatch changed history read here w namespace bound b)
         → b.reply ≡ ok_reply (batch_reply (codes "nextBatch") (batch_len_of here.cursor most) here.cursor.rest here.cursor.number namespace)
@@ -342,23 +342,23 @@ module _ {D : Type 0} (history : D → History) (old read : State D) (held : Hel
       pub gives_more : (after_it : Held) → after_it ≡ gone_on held at b.count (option_map (onwards b.count text.items) here.walk)
           → Gives (Ok b.reply) read after_it
       gives_more after_it went =
-          let on : after_it ≡ gone_on held at b.count (Some (onwards b.count text.items w)) =
+          let extends : after_it ≡ gone_on held at b.count (Some (onwards b.count text.items w)) =
           went ∙ ap (λ (walk : Option HeldWalk). gone_on held at b.count (option_map (onwards b.count text.items) walk)) is in
           let x : HeldCursor = after here b.count (Some (onwards b.count text.items w)) in
           record {
-            goes = then_pins (Ok b) r read (no_pins history read);
+            continues = then_pins (Ok b) r read (no_pins history read);
             err = tt;
             answers = λ k changed tied.
                 let n = next k changed tied in
                 record {
                   says = says changed n;
-                  left = ap table_of on ∙ gone_on_in_table held at b.count (Some (onwards b.count text.items w)) (more changed n).0
+                  left = ap table_of extends ∙ gone_on_in_table held at b.count (Some (onwards b.count text.items w)) (more changed n).0
                       ∙ ap (λ (m : ℕ). let t : CursorTable = record { list = advanced (cursors_of held) at m; next = held.next } in t)
                       (same_count b.count n.counted n.few);
                 };
             tied = λ changed tied.
-                let on_read = tied_on history old read held.list changed r.on tied in
-                subst (λ (h : Held). AreTied changed history read h.list) (sym on)
+                let on_read = tied_on history old read held.list changed r.extends tied in
+                subst (λ (h : Held). AreTied changed history read h.list) (sym extends)
                 (tied_set history changed read held.list at there x
                 (ap (λ (walk : Option HeldWalk). with_pin walk []) (sym is)) on_read
                 (λ still k. (more changed (next k changed tied)).1));
@@ -370,7 +370,7 @@ module _ {D : Type 0} (history : D → History) (old read : State D) (held : Hel
         → ((changed : Bool) → Releases changed history read new held after_it)
         → Gives (Ok b.reply) new after_it
     gives_last none new after_it went releases = record {
-      goes = then_pins (Ok b) r new (releases true).pins;
+      continues = then_pins (Ok b) r new (releases true).pins;
       err = tt;
       answers = λ k changed tied.
           let n = next (subst KeepsWord (releases true).pins.untouched.disk k) changed tied in
@@ -384,14 +384,14 @@ module _ {D : Type 0} (history : D → History) (old read : State D) (held : Hel
                 ∙ ap (λ (m : ℕ). let t : CursorTable = record { list = advanced (cursors_of held) at m; next = held.next } in t)
                 (same_count b.count n.counted n.few);
           };
-      tied = λ changed tied. (releases changed).tied (tied_on history old read held.list changed r.on tied);
+      tied = λ changed tied. (releases changed).tied (tied_on history old read held.list changed r.extends tied);
     }
 
 -- A file that has stopped gives nothing.
 pub gives_stopped : {D : Type 0} (history : D → History) (file : State D) (held : Held) (at : ℕ) (namespace : List ℕ) (most : Option ℕ)
     → is_stopped file ≡ true → GivesNext history at namespace most (Err refusals.StorageFailed) file file held held
 gives_stopped history file held at namespace most stopped = record {
-  goes = nothing_read history file;
+  continues = nothing_read history file;
   err = refl;
   answers = λ k changed tied. inr (refl, inl stopped);
   tied = λ changed tied. tied;

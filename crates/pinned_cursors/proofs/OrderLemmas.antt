@@ -7,7 +7,7 @@ use Rattle.page.specs.History.{History, KeepsWord}
 use Rattle.pager.specs.declared.version.Version.{Version}
 use Rattle.path.specs.declared.refusal.Refusal.{Refusal}
 use Rattle.path.specs.declared.refusal.Refusal.TheVariants as refusals
-use Rattle.collections.specs.Calls.{GoesFrom, HasReadCause}
+use Rattle.collections.specs.Calls.{ExtendsTurn, HasReadCause}
 use Rattle.collections.specs.State.{State}
 use Rattle.collections.specs.Versions.{ReadsVersion}
 use Rattle.collections.specs.View.{disk_history}
@@ -41,15 +41,15 @@ module _ {D : Type 0} (history : D → History) (version : Version) (number : �
   pub some_read : (found : Option GivenBatch) (b : GivenBatch) → found ≡ Some b → MayRead (Ok found) → ReadsOrdered (Ok b)
   some_read found b is reads =
       let it : MayRead (Ok (Some b)) = subst (λ (o : Option GivenBatch). MayRead (Ok o)) is reads in
-      record { on = it.on; unchanged = it.unchanged; same = it.same; answers = it.answers }
+      record { extends = it.extends; unchanged = it.unchanged; same = it.same; answers = it.answers }
 
   pub none_read : (e : Refusal) → MayRead (Err e) → ReadsOrdered (Err e)
-  none_read e reads = record { on = reads.on; unchanged = reads.unchanged; same = reads.same; answers = reads.answers }
+  none_read e reads = record { extends = reads.extends; unchanged = reads.unchanged; same = reads.same; answers = reads.answers }
 
   -- memory ran out behind it
   pub read_out : (found : Option GivenBatch) (e : Refusal) → e ≡ refusals.OutOfMemory → MayRead (Ok found) → ReadsOrdered (Err e)
   read_out found e is reads =
-      record { on = reads.on; unchanged = reads.unchanged; same = reads.same; answers = λ k now has asked so. inl is }
+      record { extends = reads.extends; unchanged = reads.unchanged; same = reads.same; answers = λ k now has asked so. inl is }
 
   module _ (rest : List Pairs) (passing : Bool) (r : ReadsRest passing history old walks_in_order rest) where
     -- what is left
@@ -80,18 +80,18 @@ module _ {D : Type 0} (history : D → History) (version : Version) (number : �
               → MatchOption o (length (rest_in_order rest_told.sort w r.home.documents) ≤ b.count)
               (λ _. b.count < length (rest_in_order rest_told.sort w r.home.documents))
           by None none = none
-          by (Some text) on = on.more
+          by (Some text) extends = extends.more
 
       -- the others, from the entry that it tells on
-      pub others_in_order : GoesFrom history old new → (text : Vec ℕ) → b.next ≡ Some text
+      pub others_in_order : ExtendsTurn history old new → (text : Vec ℕ) → b.next ≡ Some text
           → ReadsRest passing history new (held_walk version number w.projection.now (further b.count text.items (way_in_order w))) (drop b.count rest)
-      others_in_order goes text is =
-          let on : GoesOnInOrder rest_told.sort w r.home.documents b.count text.items = subst
+      others_in_order continues text is =
+          let extends : GoesOnInOrder rest_told.sort w r.home.documents b.count text.items = subst
           (λ (o : Option (Vec ℕ)). MatchOption o (length (rest_in_order rest_told.sort w r.home.documents) ≤ b.count)
           (λ t. GoesOnInOrder rest_told.sort w r.home.documents b.count t.items)) is h.next in
           record {
             collections = r.collections;
-            had = keeps_on history old new goes passing version r.collections r.had;
+            had = keeps_on history old new continues passing version r.collections r.had;
             home = r.home;
             numbered = r.numbered;
             stored = r.stored;
@@ -99,6 +99,6 @@ module _ {D : Type 0} (history : D → History) (version : Version) (number : �
               there = rest_told.there;
               sort = rest_told.sort;
               in_order = rest_told.in_order;
-              same = ap (drop b.count) rest_told.same ∙ sym on.left;
+              same = ap (drop b.count) rest_told.same ∙ sym extends.left;
             };
           }

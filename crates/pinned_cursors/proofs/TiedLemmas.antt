@@ -10,7 +10,7 @@ use Rattle.pager.specs.declared.version.Version.{Version}
 use Rattle.pager.proofs.BookLemmas.{one_time}
 use Rattle.entries.specs.State.{Collection}
 use Rattle.collections.specs.State.{State}
-use Rattle.collections.specs.Calls.{GoesFrom}
+use Rattle.collections.specs.Calls.{ExtendsTurn}
 use Rattle.collections.specs.Versions.{HasSinceStart, HasVersion, KeepsEach, KeepsSinceStart, PinsNow, UnpinsVersion, pins_of}
 use Rattle.collections.specs.View.{disk_history, is_stopped}
 use Rattle.collections.proofs.VersionLemmas.{has_still, since_start_stays, versions_stay}
@@ -40,9 +40,9 @@ module _ {D : Type 0} (history : D → History) where
   keeps_for old new each since false version cs has = since version cs has
 
   -- commands read, and take and retire pages
-  pub keeps_on : (old new : State D) → GoesFrom history old new → (passing : Bool) (version : Version) (cs : List Collection)
+  pub keeps_on : (old new : State D) → ExtendsTurn history old new → (passing : Bool) (version : Version) (cs : List Collection)
       → HasFor passing history old version cs → HasFor passing history new version cs
-  keeps_on old new goes = keeps_for old new (versions_stay history old new goes) (since_start_stays history old new goes)
+  keeps_on old new continues = keeps_for old new (versions_stay history old new continues) (since_start_stays history old new continues)
 
   -- ---- what is left of cursors
 

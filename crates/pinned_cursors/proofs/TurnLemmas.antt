@@ -19,7 +19,7 @@ module _ {D : Type 0} (history : D → History) where
   pub nothing_read : (file : State D) → ReadsThenPins history file file
   nothing_read file = record {
     read = file;
-    on = goes_from_itself history file;
+    extends = goes_from_itself history file;
     unchanged = refl;
     same = λ start now has. has;
     pins = no_pins file;

@@ -7,8 +7,8 @@ use Rattle.pager.specs.declared.version.Version.{Version}
 use Rattle.page.specs.History.{History, KeepsWord}
 use Rattle.btree.specs.Keys.{times}
 use Rattle.roots.specs.declared.store.CommitFault.{CommitFault}
-use Rattle.collections.specs.Calls.{GoesFrom}
-use Rattle.collections.specs.Committing.{Commits}
+use Rattle.collections.specs.Calls.{ExtendsTurn}
+use Rattle.collections.specs.Committing.{CommitsCollections}
 use Rattle.collections.specs.State.{State}
 use Rattle.collections.specs.Marks.{Undoes}
 use Rattle.collections.specs.Versions.{CommitsVersions, KeepsSinceStart, pins_of}
@@ -38,17 +38,17 @@ module _ {D : Type 0} (history : D → History) (old new : State D) (list : List
   }
 
   -- Commands read, and take and retire pages.
-  pub tied_on : (changed : Bool) → GoesFrom history old new → AreTied changed history old list → AreTied changed history new list
-  tied_on changed goes =
-      tied_still changed (λ running. sym (stopped_same history old.pager new.pager goes.stays) ∙ running) goes.stays.reads.on.kept
-      (λ running. keeps_on history old new goes) (pins_stay history old new goes)
+  pub tied_on : (changed : Bool) → ExtendsTurn history old new → AreTied changed history old list → AreTied changed history new list
+  tied_on changed continues =
+      tied_still changed (λ running. sym (stopped_same history old.pager new.pager continues.stays) ∙ running) continues.stays.reads.extends.kept
+      (λ running. keeps_on history old new continues) (pins_stay history old new continues)
 
   -- What a turn changed isn't committed, and is still to be taken back.
-  pub tied_failed : (changed : Bool) (result : Result (Unit {0}) CommitFault) → result ≢ Err faults.Device → Commits history result old new
+  pub tied_failed : (changed : Bool) (result : Result (Unit {0}) CommitFault) → result ≢ Err faults.Device → CommitsCollections history result old new
       → CommitsVersions history result old new → pins_of new ≡ pins_of old → (is_stopped new ≡ false → is_stopped old ≡ false)
       → AreTied changed history old list → AreTied changed history new list
   tied_failed changed result other commits versions pins ran =
-      tied_still changed ran commits.on.kept (λ running. keeps_for history old new versions.each (versions.still other)) pins
+      tied_still changed ran commits.extends.kept (λ running. keeps_for history old new versions.each (versions.still other)) pins
 
 -- Where the turn changes something, less is asked of what a cursor reads that it opened or advanced.
 pub tied_changed : {D : Type 0} (history : D → History) (file : State D) (list : List HeldCursor) (changed : Bool) → AreTied changed history file list
@@ -98,19 +98,19 @@ module _ {D : Type 0} (history : D → History) (file : State D) where
 
 module _ {D : Type 0} (history : D → History) (old new : State D) (list : List HeldCursor) (changed : Bool) (pins : pins_of new ≡ pins_of old) where
   -- What it changed is committed.
-  pub tied_committed : Commits history (Ok tt) old new → CommitsVersions history (Ok tt) old new → AreTied changed history old list
+  pub tied_committed : CommitsCollections history (Ok tt) old new → CommitsVersions history (Ok tt) old new → AreTied changed history old list
       → AreTied false history new (map rested list)
   tied_committed commits versions tied = tied_rested history new list (record {
     each = λ running k.
         each_as history changed false old new
         (λ h version cs had. for_each history h.cursor.touched new version cs (versions.begun version cs (has_now history
         (passes changed h) old version cs had)))
-        list (tied.each commits.running.0 (commits.on.kept k));
+        list (tied.each commits.running.0 (commits.extends.kept k));
     pins = λ n. ap (times n) pins ∙ tied.pins n;
   })
 
   -- It was cut off, and the file has stopped.
-  pub tied_cut : Commits history (Err faults.Device) old new → AreTied changed history old list → AreTied false history new (map rested list)
+  pub tied_cut : CommitsCollections history (Err faults.Device) old new → AreTied changed history old list → AreTied false history new (map rested list)
   tied_cut commits tied = record {
     each = λ running k. not_both running (commits.stops refl);
     pins = λ n. ap (times n) pins ∙ tied.pins n ∙ sym (ap (times n) (pins_rested history new list));

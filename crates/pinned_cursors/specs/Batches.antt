@@ -5,7 +5,7 @@ use Rattle.bson.specs.Tree.{Pairs}
 use Rattle.page.specs.History.{History, KeepsWord}
 use Rattle.path.specs.declared.refusal.Refusal.{Refusal}
 use Rattle.entries.specs.State.{Collection}
-use Rattle.collections.specs.Calls.{GoesFrom, HasReadCause, IsUnchanged}
+use Rattle.collections.specs.Calls.{ExtendsTurn, HasReadCause, IsUnchanged}
 use Rattle.collections.specs.Standing.{HasState}
 use Rattle.collections.specs.State.{State}
 use Rattle.collections.specs.View.{disk_history}
@@ -36,7 +36,7 @@ pub record IsNextBatch {D : Type 0} (passing : Bool) (history : D → History) (
 -- that of what is left, or the refusal has its cause.
 pub record ReadsAt {D : Type 0} (history : D → History) (h : HeldCursor) (namespace : List ℕ)
     (most : ℕ) (result : Result GivenBatch Refusal) (old new : State D) : Type 0 where
-  pub on : GoesFrom history old new
+  pub extends : ExtendsTurn history old new
   pub unchanged : IsUnchanged history old new
   pub same : (start now : List Collection) → HasState history old start now
       → HasState history new start now
@@ -50,7 +50,7 @@ pub record ReadsAt {D : Type 0} (history : D → History) (h : HeldCursor) (name
 -- The file was read, and then pins went at most.
 pub record ReadsThenPins {D : Type 0} (history : D → History) (old new : State D) : Type 0 where
   pub read : State D
-  pub on : GoesFrom history old read
+  pub extends : ExtendsTurn history old read
   pub unchanged : IsUnchanged history old read
   pub same : (start now : List Collection) → HasState history old start now
       → HasState history read start now
@@ -70,7 +70,7 @@ pub record IsGivenNext (at : ℕ) (namespace : List ℕ) (most : Option ℕ) (be
 pub record GivesNext {D : Type 0} (history : D → History) (at : ℕ) (namespace : List ℕ)
     (most : Option ℕ) (result : Result Pairs Refusal) (old new : State D)
     (before after : Held) : Type 0 where
-  pub goes : ReadsThenPins history old new
+  pub continues : ReadsThenPins history old new
   pub err : OnErr result (after ≡ before)
   pub answers : KeepsWord (disk_history history new)
       → (changed : Bool) → AreTied changed history old before.list

@@ -6,7 +6,7 @@ use Rattle.bson.specs.Tree.{Pairs}
 use Rattle.page.specs.History.{History, KeepsWord}
 use Rattle.path.specs.declared.refusal.Refusal.{Refusal}
 use Rattle.entries.specs.State.{Collection}
-use Rattle.collections.specs.Calls.{GoesFrom, HasReadCause, IsUnchanged}
+use Rattle.collections.specs.Calls.{ExtendsTurn, HasReadCause, IsUnchanged}
 use Rattle.collections.specs.Standing.{HasState}
 use Rattle.collections.specs.State.{State}
 use Rattle.collections.specs.View.{disk_history, is_stopped}
@@ -42,7 +42,7 @@ pub record GivesFirst {D : Type 0} (history : D → History) (connection : ℕ)
     (before after : Held) : Type 0 where
   pub pinned : State D
   pub first : OnlyPins history old pinned
-  pub goes : ReadsThenPins history pinned new
+  pub continues : ReadsThenPins history pinned new
   pub err : OnErr result (after ≡ before)
   -- a new one keeps no documents
   pub keep : that_keep after ≡ that_keep before
@@ -62,7 +62,7 @@ pub record GivesNone {D : Type 0} (history : D → History) (old new : State D)
     (before after : Held) : Type 0 where
   pub pinned : State D
   pub first : OnlyPins history old pinned
-  pub goes : ReadsThenPins history pinned new
+  pub continues : ReadsThenPins history pinned new
   pub same : after ≡ before
   pub tied : (changed : Bool) → AreTied changed history old before.list
       → AreTied changed history new after.list
@@ -87,7 +87,7 @@ KeepsPin changed history version before after false new = after ≡ before
 pub record GivesPinned {D : Type 0} (history : D → History) (connection : ℕ)
     (namespace : List ℕ) (w : HeldWalk) (documents : List Pairs) (most : ℕ)
     (result : Result FirstGiven Refusal) (old new : State D) (before after : Held) : Type 0 where
-  pub on : GoesFrom history old new
+  pub extends : ExtendsTurn history old new
   pub unchanged : IsUnchanged history old new
   pub same : (start now : List Collection) → HasState history old start now
       → HasState history new start now
@@ -105,7 +105,7 @@ pub record GivesPinned {D : Type 0} (history : D → History) (connection : ℕ)
 -- Nothing was given, and nothing changes.
 pub record PinnedNone {D : Type 0} (history : D → History) (old new : State D)
     (before after : Held) : Type 0 where
-  pub on : GoesFrom history old new
+  pub extends : ExtendsTurn history old new
   pub unchanged : IsUnchanged history old new
   pub state : (start now : List Collection) → HasState history old start now
       → HasState history new start now

@@ -15,7 +15,7 @@ use Rattle.pinned_cursors.specs.Tied.{AreTied}
 -- the same collections.
 pub record OnlyPins {D : Type 0} (history : D → History) (old new : State D) : Type 0 where
   pub untouched : IsUntouched history old new
-  pub takes : (pages_of history new).full_takes ≡ (pages_of history old).full_takes
+  pub takes : (pages_of history new).failed_allocations ≡ (pages_of history old).failed_allocations
   pub unchanged : is_changed new ≡ is_changed old
   pub state : (start now : List Collection) → HasState history old start now
       → HasState history new start now

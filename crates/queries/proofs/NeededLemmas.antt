@@ -62,11 +62,11 @@ module _ (stages : List Stage) where
   pub batch_of_within : (few next batch : List Pairs)
       → ((seen : List Pairs) → IsEnough stages few seen → IsEnough stages next (seen ++ filter (takes stages) batch))
       → All IsWithin (filter (takes stages) batch) → AreOfWithin stages few → AreOfWithin stages next
-  batch_of_within few next batch on all h =
+  batch_of_within few next batch extends all h =
       let taken = filter (takes stages) batch in
       record {
         seen = h.seen ++ taken;
-        enough = on h.seen h.enough;
+        enough = extends h.seen h.enough;
         within = within-fault 65535 (h.seen ++ taken)
             (All-append (λ d. limit_fault 65535 d ≡ None) h.seen taken (fault-within 65535 h.seen h.within)
             (fault-within 65535 taken (none_at_fault taken all)));
@@ -74,9 +74,9 @@ module _ (stages : List Stage) where
 
   pub are_within : (few last : List Pairs) → ((seen : List Pairs) → IsEnough stages few seen → IsEnough stages last seen) → AreOfWithin stages few
       → All IsWithin last
-  are_within few last on h =
+  are_within few last extends h =
       let fault : first_fault 65535 (h.seen ++ []) ≡ None = subst (λ (xs : List Pairs). first_fault 65535 xs ≡ None) (sym (append-nil h.seen)) h.within in
-      faultless_within last (subst (λ (xs : List Pairs). first_fault 65535 xs ≡ None) (append-nil last) ((on h.seen h.enough).same 65535 [] fault).0)
+      faultless_within last (subst (λ (xs : List Pairs). first_fault 65535 xs ≡ None) (append-nil last) ((extends h.seen h.enough).same 65535 [] fault).0)
 
 -- ---- one document
 
@@ -97,9 +97,9 @@ module _ (stages : List Stage) (x : Pairs) where
   pub taken_enough : takes stages x ≡ true → (now next : List Pairs) (built : Pairs) → built ≡ x
       → ((seen : List Pairs) → IsEnough stages now seen → takes stages built ≡ true → IsEnough stages next (seen ++ built ∷ []))
       → (seen : List Pairs) → IsEnough stages now seen → IsEnough stages next (seen ++ filter (takes stages) (x ∷ []))
-  taken_enough is now next built same on seen h =
+  taken_enough is now next built same extends seen h =
       subst (IsEnough stages next) (ap (λ (ys : List Pairs). seen ++ ys) (ap (λ (d : Pairs). d ∷ []) same ∙ sym (taken_alone is)))
-      (on seen h (ap (takes stages) same ∙ is))
+      (extends seen h (ap (takes stages) same ∙ is))
 
   pub taken_within : takes stages x ≡ true → IsWithin x → All IsWithin (filter (takes stages) (x ∷ []))
   taken_within is within = subst (All IsWithin) (sym (taken_alone is)) (All-cons IsWithin x [] within (All-nil IsWithin))
@@ -145,7 +145,7 @@ module _ (start now : Needing) (all : List Pairs) (h : Needs start all now) wher
   -- one more was asked
   pub one_needed : now.is_enough ≡ false → (d : Pairs) (next : Needing) → next.pipeline.now ≡ now.pipeline.now
       → Goes (pipeline_of now.pipeline.now) d now next → Needs start (all ++ d ∷ []) next
-  one_needed none d next same goes = record {
+  one_needed none d next same continues = record {
     pipeline = same ∙ h.pipeline;
     front = all ++ d ∷ [];
     left = [];
@@ -160,7 +160,7 @@ module _ (start now : Needing) (all : List Pairs) (h : Needs start all now) wher
   }
     where
       here : Goes stages d now next
-      here = subst (λ st. Goes st d now next) (ap pipeline_of h.pipeline) goes
+      here = subst (λ st. Goes st d now next) (ap pipeline_of h.pipeline) continues
 
       whole : h.front ≡ all
       whole = sym (append-nil h.front) ∙ ap (λ (ys : List Pairs). h.front ++ ys) (sym (h.all none)) ∙ sym h.split
@@ -181,10 +181,10 @@ module _ (start now : Needing) (all : List Pairs) (h : Needs start all now) wher
 
     pub all_needed : (last : List Pairs) → now.is_enough ≡ false → ((seen : List Pairs) → IsEnough stages now.needed.items seen → IsEnough stages last seen)
         → AreEnough stages last all
-    all_needed last not on = λ fault.
+    all_needed last not extends = λ fault.
         let whole : h.front ≡ all = sym (append-nil h.front) ∙ ap (λ (ys : List Pairs). h.front ++ ys) (sym (h.all not)) ∙ sym h.split in
         enough_of_all stages 65535 last all
-        (subst (λ (xs : List Pairs). IsEnough stages last (filter (takes stages) xs)) whole (on (filter (takes stages) h.front) enough_of_front)) fault
+        (subst (λ (xs : List Pairs). IsEnough stages last (filter (takes stages) xs)) whole (extends (filter (takes stages) h.front) enough_of_front)) fault
 
     pub enough_needed : now.is_enough ≡ true → AreEnough stages now.needed.items all
     enough_needed is = λ fault.
@@ -218,7 +218,7 @@ module _ (stages : List Stage) where
   pub one_taken_of : (few next : List Pairs) (x : Option Pairs)
       → ((seen : List Pairs) → IsEnough stages few seen → IsEnough stages next (seen ++ filter (takes stages) (with_found x [])))
       → (all left : List Pairs) (o : Option Pairs) → x ≡ o → AreTakenOf stages few all (with_found o left) → AreTakenOf stages next all left
-  one_taken_of few next x on all left o same h =
+  one_taken_of few next x extends all left o same h =
       let one = filter (takes stages) (with_found x []) in
       let later = filter (takes stages) left in
       record {
@@ -226,14 +226,14 @@ module _ (stages : List Stage) where
         split =
             append_assoc h.seen one later ∙ ap (λ (ys : List Pairs). h.seen ++ ys) (sym (found_first (takes stages) x left))
             ∙ ap (λ (y : Option Pairs). h.seen ++ filter (takes stages) (with_found y left)) same ∙ h.split;
-        enough = on h.seen h.enough;
+        enough = extends h.seen h.enough;
       }
 
   pub all_taken_of : (few last all : List Pairs) → ((seen : List Pairs) → IsEnough stages few seen → IsEnough stages last seen) → AreTakenOf stages few all []
       → AreEnough stages last all
-  all_taken_of few last all on h = λ fault.
+  all_taken_of few last all extends h = λ fault.
       let whole : h.seen ≡ filter (takes stages) all = sym (append-nil h.seen) ∙ h.split in
-      enough_of_all stages 65535 last all (subst (IsEnough stages last) whole (on h.seen h.enough)) fault
+      enough_of_all stages 65535 last all (subst (IsEnough stages last) whole (extends h.seen h.enough)) fault
 
   pub enough_taken_of : (few all left : List Pairs) → SufficesTaken stages (length few) → AreTakenOf stages few all left → AreEnough stages few all
   enough_taken_of few all left most h = λ fault.

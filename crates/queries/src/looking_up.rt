@@ -8,7 +8,7 @@ ghost use Rattle.asked_documents.specs.Asking.{IsAsked};
 ghost use Rattle.queries.specs.PartlyTold.{IsToldOf};
 
 use crate::partly_told::PartlyTold;
-use asked_documents::Selects;
+use asked_documents::DocumentPredicate;
 use bson::{NoMemory, SpelledDocument};
 use candidate_ids::{Told, asked_ids, told_in};
 use collections::Collections;
@@ -22,7 +22,7 @@ use walks::{scanned, selected_by_ids};
 /// The documents of a collection in a file that are looked for, as they are told: they are looked up where their `_id`s are. Else a
 /// walk asks each document by the filters of the others, and only those that one of these matches, or whose `_id` is told, whether
 /// they are looked for.
-fn selected_as_told<D: Disk, S: Selects>(
+fn selected_as_told<D: Disk, S: DocumentPredicate>(
     alloc: Global,
     file: &mut Collections<D>,
     home: &Catalogued,
@@ -52,7 +52,7 @@ fn selected_as_told<D: Disk, S: Selects>(
 /// The documents of a collection in a file that are looked for, in ascending order of `_id`: the first ones, up to so many. They are
 /// looked up, where they are looked for by their `_id`s, or indexes serve the filters that ask for them. `None`: only a walk through
 /// the collection tells them.
-pub(crate) fn looked_up_in<D: Disk, S: Selects>(
+pub(crate) fn looked_up_in<D: Disk, S: DocumentPredicate>(
     alloc: Global,
     file: &mut Collections<D>,
     home: &Catalogued,
@@ -75,7 +75,7 @@ pub(crate) fn looked_up_in<D: Disk, S: Selects>(
 }
 
 /// The same, by a walk where only that tells them.
-pub(crate) fn spelled_in<D: Disk, S: Selects>(
+pub(crate) fn spelled_in<D: Disk, S: DocumentPredicate>(
     alloc: Global,
     file: &mut Collections<D>,
     home: &Catalogued,
@@ -108,7 +108,7 @@ fn shared_all(
 }
 
 /// The same, with values of their own.
-pub fn selected_in<D: Disk, S: Selects>(
+pub fn selected_in<D: Disk, S: DocumentPredicate>(
     alloc: Global,
     file: &mut Collections<D>,
     home: &Catalogued,

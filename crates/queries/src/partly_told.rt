@@ -6,7 +6,7 @@ ghost use Rattle.index.specs.Changes.{is_among};
 ghost use Rattle.asked_documents.specs.ById.{one_matches};
 ghost use Rattle.value_order.specs.KeyText.{tree_text};
 
-use asked_documents::Selects;
+use asked_documents::DocumentPredicate;
 use bson::{NoMemory, RawDoc};
 use candidate_ids::IdSet;
 use filter::Filter;
@@ -50,7 +50,7 @@ fn is_beside(
     ids.has_id_of(alloc, document)
 }
 
-impl<S: Selects> Selects for PartlyTold<'_, S> {
+impl<S: DocumentPredicate> DocumentPredicate for PartlyTold<'_, S> {
     ghost selects = { λ a d. (one_matches (map (λ f. f.now) a.walked.now) d
         || is_among a.ids.now (tree_text (key_of d))) && S.selects a.which.now d };
 

@@ -5,7 +5,7 @@ ghost use Rattle.aggregate_model.specs.Taking.{leading_match, takes};
 ghost use Rattle.aggregate.specs.View.{pipeline_of};
 
 use aggregate::Pipeline;
-use asked_documents::Selects;
+use asked_documents::DocumentPredicate;
 use bson::{NoMemory, RawDoc};
 use filter::Filter;
 use std::alloc::Global;
@@ -16,7 +16,7 @@ pub(crate) struct TakenBy<'a> {
     pub(crate) pipeline: &'a Pipeline,
 }
 
-impl Selects for TakenBy<'_> {
+impl DocumentPredicate for TakenBy<'_> {
     ghost selects = { λ a. takes (pipeline_of a.pipeline.now) };
 
     ghost filters = { λ a. option_to_list (leading_match (pipeline_of a.pipeline.now)) };

@@ -5,7 +5,7 @@ use Rattle.std.specs.Prelude.{◌&&◌, ◌==◌, nat_lt, if◌then◌else◌, i
 use Rattle.std.specs.List.{AllByRecursion}
 use Rattle.std.proofs.lemmas.Bool.{cases_eq, cases_lt}
 use Rattle.std.proofs.lemmas.Bool.Decides.{nat_tests}
-use Rattle.page.specs.Format.{Sheet, sheet_in}
+use Rattle.page.specs.Format.{PageModel, model_in}
 use Rattle.page.specs.History.{History, KeepsWord, now, reads}
 use Rattle.page.specs.Page.{page_at}
 use Rattle.page.specs.declared.page_fault.PageFault.{PageFault}
@@ -19,7 +19,7 @@ use Rattle.freelist.proofs.ListedBooks.{room_is}
 use Rattle.freelist.proofs.Marking.{times_in-append}
 use Rattle.roots.specs.Counting.{AreCounts, CountsPages, CountsTree}
 use Rattle.roots.specs.HeldFile.{HoldsNoFile, Reaches}
-use Rattle.roots.specs.Image.{HasList, HoldsMap, reached_by, sheet_at, store_of}
+use Rattle.roots.specs.Image.{HasList, HoldsMap, reached_by, model_at, store_of}
 use Rattle.roots.specs.Listed.{OnlyReads}
 use Rattle.roots.specs.declared.counting.PageCounts.{PageCounts}
 use Rattle.roots.specs.declared.opening.OpenFault.{OpenFault}
@@ -38,18 +38,18 @@ abbrev pub IsInside : ℕ → ℕ → Type 0
 IsInside most n = (0 < n) × (n < most)
 
 -- a page of the image is one of the file's behind page 0
-pub sheet_inside : (image : ℕ → List ℕ) (root : Root) (n : ℕ) → is_ok (sheet_at image root n) ≡ true → IsInside root.pages n
-sheet_inside image root n there = elim (cases_lt 0 n) [
+pub model_inside : (image : ℕ → List ℕ) (root : Root) (n : ℕ) → is_ok (model_at image root n) ≡ true → IsInside root.pages n
+model_inside image root n there = elim (cases_lt 0 n) [
   | inl some ↦ elim (cases_lt n root.pages) [
     | inl below ↦ (some, below)
     | inr past ↦ let test : nat_lt n root.pages ≡ false = grind (arith, nat_tests, past) in
-        absurd (none (nat_lt 0 n) (nat_lt n root.pages) (sheet_in n root.generation (page_at image n)) (inr test) there)
+        absurd (none (nat_lt 0 n) (nat_lt n root.pages) (model_in n root.generation (page_at image n)) (inr test) there)
   ]
   | inr zero_is ↦ let test : nat_lt 0 n ≡ false = grind (arith, nat_tests, zero_is) in
-      absurd (none (nat_lt 0 n) (nat_lt n root.pages) (sheet_in n root.generation (page_at image n)) (inl test) there)
+      absurd (none (nat_lt 0 n) (nat_lt n root.pages) (model_in n root.generation (page_at image n)) (inl test) there)
 ]
   where
-    none : (a b : Bool) (found : Result Sheet PageFault) → (a ≡ false) ⊎ (b ≡ false) → is_ok (if a && b then found else Err page_faults.Number) ≡ true → ⊥
+    none : (a b : Bool) (found : Result PageModel PageFault) → (a ≡ false) ⊎ (b ≡ false) → is_ok (if a && b then found else Err page_faults.Number) ≡ true → ⊥
     none true true found (inl is) there = cc
     none true true found (inr is) there = cc
     none true false found either there = cc
@@ -79,23 +79,23 @@ room_there : (most n : ℕ) → IsInside most n → room_for most n ≡ 1
 room_there most n inside = room_is most n inside.0 inside.1
 
 -- what a root reaches are pages of the file behind page 0, none of them twice
-pub reached_once : (image : ℕ → List ℕ) (root : Root) (live : List ℕ) → Reaches (sheet_at image root) root live → (n : ℕ)
+pub reached_once : (image : ℕ → List ℕ) (root : Root) (live : List ℕ) → Reaches (model_at image root) root live → (n : ℕ)
     → times n live ≤ room_for root.pages n
 reached_once image root live found n = subst (λ (l : List ℕ). times n l ≤ room_for root.pages n) (sym found.are) (elim (cases_eq root.free_list 0) [
   | inl none ↦
-      let empty : found.parts ≡ [] = no_parts (sheet_at image root) root found.pages found.parts none found.holds.list in
+      let empty : found.parts ≡ [] = no_parts (model_at image root) root found.pages found.parts none found.holds.list in
       subst (λ (l : List ℕ). times n l ≤ room_for root.pages n)
       (sym (ap (λ (parts : List Part). found.pages ++ pages_of parts) empty ∙ append-nil found.pages)) tree_once
-  | inr some ↦ omega (arith, names_the_rest (sheet_at image root) root found.pages found.parts found.entries found.holds some n)
+  | inr some ↦ omega (arith, names_the_rest (model_at image root) root found.pages found.parts found.entries found.holds some n)
 ])
   where
     tree_once : times n found.pages ≤ room_for root.pages n
     tree_once = elim (cases_lt 0 (times n found.pages)) [
       | inl some ↦
           let inside : IsInside root.pages n =
-          sheet_inside image root n
-          (has_times (λ m. is_ok (sheet_at image root m) ≡ true) n found.pages
-          (map_live (store_of (sheet_at image root)) root.tree found.pages found.entries found.holds.tree.map) (omega (arith, some))) in
+          model_inside image root n
+          (has_times (λ m. is_ok (model_at image root m) ≡ true) n found.pages
+          (map_live (store_of (model_at image root)) root.tree found.pages found.entries found.holds.tree.map) (omega (arith, some))) in
           omega (arith, room_there root.pages n inside, found.holds.tree.once n)
       | inr none ↦ omega (arith, none)
     ]
@@ -113,14 +113,14 @@ once_fits count most pages some le once =
       | inr ne ↦ let test : (n == 0) ≡ false = grind (arith, nat_tests) in omega (arith, ap one_if test, once n, room_most count n)
     ]
 
-pub reached_fits : (image : ℕ → List ℕ) (root : Root) (live : List ℕ) → Reaches (sheet_at image root) root live → length live < max root.pages 1
+pub reached_fits : (image : ℕ → List ℕ) (root : Root) (live : List ℕ) → Reaches (model_at image root) root live → length live < max root.pages 1
 reached_fits image root live found =
     once_fits root.pages (max root.pages 1) live (omega arith) (omega arith) (reached_once image root live found)
 
 -- the list that a root names begins in the file, and names fewer pages than it has
-pub list_below : (sheets : ℕ → Result Sheet PageFault) (root : Root) (pages : List ℕ) (parts : List Part) → 0 < root.pages
-    → HasList sheets root pages parts → (root.free_list < root.pages) × (root.free_count < root.pages)
-list_below sheets root pages parts some has = (
+pub list_below : (models : ℕ → Result PageModel PageFault) (root : Root) (pages : List ℕ) (parts : List Part) → 0 < root.pages
+    → HasList models root pages parts → (root.free_list < root.pages) × (root.free_count < root.pages)
+list_below models root pages parts some has = (
   subst (λ (n : ℕ). n < root.pages) has.list.begins (first_below parts (all_pages root.pages (pages_of parts ++ named_by parts) has.list.once)),
   subst (λ (n : ℕ). n < root.pages) has.list.counted (once_fits root.pages root.pages (named_by parts) some (omega arith) (λ n.
       omega (arith, has.list.once n, times_in-append n (pages_of parts) (named_by parts), times_same n (named_by parts)))),
@@ -132,7 +132,7 @@ list_below sheets root pages parts some has = (
     first_below (part ∷ rest) all = all.0.1
 
 -- what is counted by the number of pages that were reached
-pub counts_are : (image : ℕ → List ℕ) (root : Root) (live : List ℕ) (counts : PageCounts) (reached : ℕ) → Reaches (sheet_at image root) root live
+pub counts_are : (image : ℕ → List ℕ) (root : Root) (live : List ℕ) (counts : PageCounts) (reached : ℕ) → Reaches (model_at image root) root live
     → reached ≡ length live → counts.pages ≡ max root.pages 1 → (reached < max root.pages 1 → 1 + reached + counts.free ≡ counts.pages)
     → AreCounts root live counts
 counts_are image root live counts reached found is pages all = record {
@@ -141,23 +141,23 @@ counts_are image root live counts reached found is pages all = record {
 }
 
 counted_by : (image : ℕ → List ℕ) (root : Root) (result : Result PageCounts OpenFault) (live : List ℕ) (parts : List Part) (entries : List Entry)
-    → HasList (sheet_at image root) root live parts → HoldsMap (sheet_at image root) root live entries
-    → MatchResult result (CountsTree image root) (λ fault. fault ≡ faults.Damaged → HoldsNoFile (sheet_at image root) root)
+    → HasList (model_at image root) root live parts → HoldsMap (model_at image root) root live entries
+    → MatchResult result (CountsTree image root) (λ fault. fault ≡ faults.Damaged → HoldsNoFile (model_at image root) root)
     → MatchResult result (AreCounts root (reached_by live parts)) (λ fault. fault ≢ faults.Damaged)
 counted_by image root (Ok counts) live parts entries list holds found =
     subst (λ (l : List ℕ). AreCounts root l counts)
-    (committed_file (sheet_at image root) root live found.live parts entries list holds found.reaches).0 found.are
+    (committed_file (model_at image root) root live found.live parts entries list holds found.reaches).0 found.are
 counted_by image root (Err fault) live parts entries list holds found = λ is. found is live parts entries (record { tree = holds; list = list })
 
 counts_there : (image : ℕ → List ℕ) (root : Root) (result : Result PageCounts OpenFault)
-    → MatchResult result (CountsTree image root) (λ fault. fault ≡ faults.Damaged → HoldsNoFile (sheet_at image root) root)
+    → MatchResult result (CountsTree image root) (λ fault. fault ≡ faults.Damaged → HoldsNoFile (model_at image root) root)
     → IfOk result (CountsTree image root)
 counts_there image root (Ok counts) found = found
 counts_there image root (Err fault) found = tt
 
 pub counts_so : {D : Type 0} (history : D → History) (result : Result PageCounts OpenFault) (old new : Store D) → OnlyReads history old new
     → (KeepsWord (history new.disk) → MatchResult result (CountsTree (reads (now (history old.disk))) old.root)
-    (λ fault. fault ≡ faults.Damaged → HoldsNoFile (sheet_at (reads (now (history old.disk))) old.root) old.root))
+    (λ fault. fault ≡ faults.Damaged → HoldsNoFile (model_at (reads (now (history old.disk))) old.root) old.root))
     → CountsPages history result old new
 counts_so history result old new only found = record {
   root = only.root;
@@ -165,6 +165,6 @@ counts_so history result old new only found = record {
   committed = committed_still history old new only;
   stands = λ k. counts_there (reads (now (history old.disk))) old.root result (found k);
   counts = λ k live entries committed parts list.
-      counted_by (reads (now (history old.disk))) old.root result live parts entries list (committed.keeps.holds (only.disk.on.kept k)) (found k);
+      counted_by (reads (now (history old.disk))) old.root result live parts entries list (committed.keeps.holds (only.disk.extends.kept k)) (found k);
   noted = only.noted;
 }

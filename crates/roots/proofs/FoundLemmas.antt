@@ -12,8 +12,9 @@ use Rattle.std.proofs.lemmas.List.{take_all, drop_all, nil_from_length}
 use Rattle.std.proofs.lemmas.Option.{slice_get_within}
 use Rattle.std.proofs.lemmas.Bool.{cases_lt}
 use Rattle.std.proofs.lemmas.Bool.Decides.{nat_tests}
-use Rattle.page.specs.Content.{Arm, IsBranch, IsItem, IsLeaf, IsPlace, Item, branch, chain, inline, is_below, item_keys, leaf, rise, rise_above, spilled, Place}
-use Rattle.page.specs.Format.{Sheet, sheet_in}
+use Rattle.page.specs.Content.{Pivot, IsBranch, IsItem, IsLeaf, IsPlace, Item, branch, chain, inline, is_below, item_keys, leaf, rise, rise_above}
+use Rattle.page.specs.Content.{spilled, Place}
+use Rattle.page.specs.Format.{PageModel, model_in}
 use Rattle.page.specs.Page.{page_at}
 use Rattle.page.specs.declared.page_fault.PageFault.{PageFault}
 use Rattle.page.specs.declared.page_fault.PageFault.TheVariants as page_faults
@@ -21,8 +22,8 @@ use Rattle.btree.specs.Calls.{IsPart}
 use Rattle.btree.specs.Keys.{Each, IsBetween, IsPast, IsUnder, IsWithin, Pair, Rises}
 use Rattle.btree.specs.Search.{AreBounds}
 use Rattle.btree.specs.Store.{IsAt, Store}
-use Rattle.btree.specs.Tree.{Body, HasChain, HasLinks, IsFan, IsSound, IsWhole, Shows, Twig, arm_of, content_of, item_of, next_of, pages_of, pair_keys}
-use Rattle.btree.specs.Tree.{place_of, twig_keys, with_low}
+use Rattle.btree.specs.Tree.{Body, HasChain, HasLinks, IsFan, IsSound, IsWhole, Shows, Subtree, pivot_of, content_of, item_of, next_of, pages_of, pair_keys}
+use Rattle.btree.specs.Tree.{place_of, subtree_keys, with_low}
 use Rattle.btree.proofs.FanLemmas.{fan_append}
 use Rattle.btree.proofs.GetLemmas.{child_part}
 use Rattle.btree.proofs.KeyLemmas.{under_trans, up_to_then_under, within_wider}
@@ -34,21 +35,22 @@ use Rattle.roots.specs.declared.opening.OpenFault.TheVariants as faults
 use Rattle.roots.specs.declared.root.Root.{Root}
 use Rattle.roots.specs.declared.walk.Reached.{Reached}
 use Rattle.roots.specs.Found.{HasFoundChain, HasFoundFan, HasFoundPairs, HasFoundPart, HasFoundValue, ReachesDepth, bound_of}
-use Rattle.roots.specs.Image.{content_in, sheet_at, store_of}
+use Rattle.roots.specs.Image.{content_in, model_at, store_of}
 use Rattle.roots.specs.Walk.{CanReach, IsMarked, pages_in, pages_so_far}
 use Rattle.roots.proofs.WalkLemmas.{can_reach_there, got_there, reached_there, same_pages}
 
 -- ---- a page that was read
 
-first_test : (a b : Bool) (found other : Result Sheet PageFault) (sheet : Sheet) → ((if a && b then found else Err page_faults.Number) ≡ Ok sheet) → a ≡ true
-first_test true b found other sheet is = refl
-first_test false b found other sheet is = absurd cc
+first_test : (a b : Bool) (found other : Result PageModel PageFault) (model : PageModel) → ((if a && b then found else Err page_faults.Number) ≡ Ok model)
+    → a ≡ true
+first_test true b found other model is = refl
+first_test false b found other model is = absurd cc
 
-pub page_there : (image : ℕ → List ℕ) (root : Root) (page : ℕ) (sheet : Sheet) → sheet_at image root page ≡ Ok sheet
-    → IsAt (store_of (sheet_at image root)) page sheet.content
-page_there image root page sheet is = record {
+pub page_there : (image : ℕ → List ℕ) (root : Root) (page : ℕ) (model : PageModel) → model_at image root page ≡ Ok model
+    → IsAt (store_of (model_at image root)) page model.content
+page_there image root page model is = record {
   number = grind
-      (arith, nat_tests, first_test (nat_lt 0 page) (nat_lt page root.pages) (sheet_in page root.generation (page_at image page)) (Ok sheet) sheet is);
+      (arith, nat_tests, first_test (nat_lt 0 page) (nat_lt page root.pages) (model_in page root.generation (page_at image page)) (Ok model) model is);
   live = ap is_ok is;
   holds = ap content_in is;
 }
@@ -260,28 +262,29 @@ leaf_found s page low high items before mid after at lawful within noted f = rec
 
 -- ---- the children of a branch
 
-pub no_fan_found : (s : Store) (d : ℕ) (low : List ℕ) (high : Option (List ℕ)) (arms : List Arm) (before : List ℕ)
-    → HasFoundFan s d low high arms 0 before before
-no_fan_found s d low high arms before = record { twigs = []; is = refl; shown = tt; fan = tt; rise = tt; within = tt; reached = sym (append-nil before) }
+pub no_fan_found : (s : Store) (d : ℕ) (low : List ℕ) (high : Option (List ℕ)) (pivots : List Pivot) (before : List ℕ)
+    → HasFoundFan s d low high pivots 0 before before
+no_fan_found s d low high pivots before = record { subtrees = []; is = refl; shown = tt; fan = tt; rise = tt; within = tt; reached = sym (append-nil before) }
 
 -- before the first child, the children may stand at any height
-pub fan_height : (s : Store) (d e : ℕ) (low : List ℕ) (high : Option (List ℕ)) (arms : List Arm) (i : ℕ) (before after : List ℕ) → (i ≡ 0) ⊎ (e ≡ d)
-    → HasFoundFan s d low high arms i before after → HasFoundFan s e low high arms i before after
-fan_height s d e low high arms i before after (inl none) f = go f.twigs (ap length (sym f.is) ∙ ap (λ (n : ℕ). length (take n arms)) none) f.reached
+pub fan_height : (s : Store) (d e : ℕ) (low : List ℕ) (high : Option (List ℕ)) (pivots : List Pivot) (i : ℕ) (before after : List ℕ) → (i ≡ 0) ⊎ (e ≡ d)
+    → HasFoundFan s d low high pivots i before after → HasFoundFan s e low high pivots i before after
+fan_height s d e low high pivots i before after (inl none) f = go f.subtrees (ap length (sym f.is) ∙ ap (λ (n : ℕ). length (take n pivots)) none) f.reached
   where
-    go : (twigs : List (Twig (Body d))) → length (map arm_of twigs) ≡ 0 → after ≡ before ++ pages_of (suc d) twigs
-        → HasFoundFan s e low high arms i before after
-    go [] long reached = record { twigs = []; is = ap (λ (n : ℕ). take n arms) none; shown = tt; fan = tt; rise = tt; within = tt; reached = reached }
+    go : (subtrees : List (Subtree (Body d))) → length (map pivot_of subtrees) ≡ 0 → after ≡ before ++ pages_of (suc d) subtrees
+        → HasFoundFan s e low high pivots i before after
+    go [] long reached = record { subtrees = []; is = ap (λ (n : ℕ). take n pivots) none; shown = tt; fan = tt; rise = tt; within = tt; reached = reached }
     go (w ∷ ws) long reached = absurd (omega (arith, long))
-fan_height s d e low high arms i before after (inr same) f = subst (λ (n : ℕ). HasFoundFan s n low high arms i before after) (sym same) f
+fan_height s d e low high pivots i before after (inr same) f = subst (λ (n : ℕ). HasFoundFan s n low high pivots i before after) (sym same) f
 
-bound_here : (high : Option (List ℕ)) (arms : List Arm) (i : ℕ) (arm : Arm) → slice_get arms i ≡ Some arm → bound_of high (drop i arms) ≡ Some arm.key
-bound_here high [] i arm got = absurd cc
-bound_here high (a ∷ others) zero arm got = ap (λ (x : Arm). Some x.key) (let same : a ≡ arm = cc in same)
-bound_here high (a ∷ others) (suc i) arm got = bound_here high others i arm got
+bound_here : (high : Option (List ℕ)) (pivots : List Pivot) (i : ℕ) (pivot : Pivot) → slice_get pivots i ≡ Some pivot
+    → bound_of high (drop i pivots) ≡ Some pivot.key
+bound_here high [] i pivot got = absurd cc
+bound_here high (a ∷ others) zero pivot got = ap (λ (x : Pivot). Some x.key) (let same : a ≡ pivot = cc in same)
+bound_here high (a ∷ others) (suc i) pivot got = bound_here high others i pivot got
 
-bound_next : (high : Option (List ℕ)) (arms : List Arm) (i : ℕ) (to : Option (List ℕ)) → (length arms ≤ i → to ≡ high)
-    → ((d : Arm) → i < length arms → to ≡ Some (get_or arms i d).key) → bound_of high (drop i arms) ≡ to
+bound_next : (high : Option (List ℕ)) (pivots : List Pivot) (i : ℕ) (to : Option (List ℕ)) → (length pivots ≤ i → to ≡ high)
+    → ((d : Pivot) → i < length pivots → to ≡ Some (get_or pivots i d).key) → bound_of high (drop i pivots) ≡ to
 bound_next high [] zero to last inner = sym (last (omega arith))
 bound_next high [] (suc i) to last inner = sym (last (omega arith))
 bound_next high (a ∷ others) zero to last inner = sym (inner a (omega arith))
@@ -289,24 +292,25 @@ bound_next high (a ∷ others) (suc i) to last inner =
     bound_next high others i to (λ past. last (omega (arith, past))) (λ d inside. inner d (omega (arith, inside)))
 
 -- one child more
-module _ (s : Store) (d : ℕ) (low : List ℕ) (high : Option (List ℕ)) (arms : List Arm) (i : ℕ) (child : Arm) (from : List ℕ) (to : Option (List ℕ))
-    (got : slice_get arms i ≡ Some child) (bounds : AreBounds low high arms i from to) where
+module _ (s : Store) (d : ℕ) (low : List ℕ) (high : Option (List ℕ)) (pivots : List Pivot) (i : ℕ) (child : Pivot) (from : List ℕ) (to : Option (List ℕ))
+    (got : slice_get pivots i ≡ Some child) (bounds : AreBounds low high pivots i from to) where
   abbrev Lies : List ℕ → Option (List ℕ) → Body d → Type 0
   Lies from to body = IsWhole d body × IsSound d from to body
 
-  to_is : bound_of high (drop (i + 1) arms) ≡ to
-  to_is = bound_next high arms (i + 1) to (λ past. bounds.last (omega (arith, past))) (λ e inside. bounds.inner e (omega (arith, inside)))
+  to_is : bound_of high (drop (i + 1) pivots) ≡ to
+  to_is = bound_next high pivots (i + 1) to (λ past. bounds.last (omega (arith, past))) (λ e inside. bounds.inner e (omega (arith, inside)))
 
   from_is : 0 < i → from ≡ child.key
-  from_is some = bounds.later child some ∙ ap (λ (a : Arm). a.key) (sym (got_itself arms i child got child))
+  from_is some = bounds.later child some ∙ ap (λ (a : Pivot). a.key) (sym (got_itself pivots i child got child))
 
-  record IsRisingFan (twigs : List (Twig (Body d))) (bound : Option (List ℕ)) : Type 0 where
-    fan : IsFan Lies bound (with_low low twigs)
-    rise : Rises (twig_keys (with_low low twigs))
-    within : Each (IsWithin bound) (twig_keys (with_low low twigs))
+  record IsRisingFan (subtrees : List (Subtree (Body d))) (bound : Option (List ℕ)) : Type 0 where
+    fan : IsFan Lies bound (with_low low subtrees)
+    rise : Rises (subtree_keys (with_low low subtrees))
+    within : Each (IsWithin bound) (subtree_keys (with_low low subtrees))
 
-  longer : (twigs : List (Twig (Body d))) (w : Twig (Body d)) → length twigs ≡ i → w.key ≡ child.key → IsRisingFan twigs (bound_of high (drop i arms))
-      → Lies from to w.body → IsWithin to from → IsRisingFan (twigs ++ w ∷ []) to
+  longer : (subtrees : List (Subtree (Body d))) (w : Subtree (Body d)) → length subtrees ≡ i → w.key ≡ child.key
+      → IsRisingFan subtrees (bound_of high (drop i pivots))
+      → Lies from to w.body → IsWithin to from → IsRisingFan (subtrees ++ w ∷ []) to
   longer [] w long named f lies within =
       let same : from ≡ low = bounds.first (sym long) in
       record {
@@ -316,62 +320,64 @@ module _ (s : Store) (d : ℕ) (low : List ℕ) (high : Option (List ℕ)) (arms
       }
   longer (v ∷ vs) w long named f lies within =
       let key_is : from ≡ w.key = from_is (omega (arith, long)) ∙ sym named in
-      let bound : bound_of high (drop i arms) ≡ Some w.key = bound_here high arms i child got ∙ ap Some (sym named) in
-      let ws : List (Twig (Body d)) = with_low low (v ∷ vs) in
-      let keys : twig_keys (ws ++ w ∷ []) ≡ twig_keys ws ++ w.key ∷ [] = map_append (λ (t : Twig (Body d)). t.key) ws (w ∷ []) in
-      let under : Each (λ (k : List ℕ). IsUnder k w.key) (twig_keys ws) = subst (λ (b : Option (List ℕ)). Each (IsWithin b) (twig_keys ws)) bound f.within in
+      let bound : bound_of high (drop i pivots) ≡ Some w.key = bound_here high pivots i child got ∙ ap Some (sym named) in
+      let ws : List (Subtree (Body d)) = with_low low (v ∷ vs) in
+      let keys : subtree_keys (ws ++ w ∷ []) ≡ subtree_keys ws ++ w.key ∷ [] = map_append (λ (t : Subtree (Body d)). t.key) ws (w ∷ []) in
+      let under : Each (λ (k : List ℕ). IsUnder k w.key) (subtree_keys ws) = subst (λ (b : Option (List ℕ)). Each (IsWithin b) (subtree_keys ws)) bound
+      f.within in
       let above : IsWithin to w.key = subst (IsWithin to) key_is within in
       record {
         fan = fan_append Lies to ws (w ∷ []) (subst (λ (b : Option (List ℕ)). IsFan Lies b ws) bound f.fan)
             (subst (λ (k : List ℕ). Lies k to w.body) key_is lies, tt);
         rise = subst Rises (sym keys)
-            (rises_append (twig_keys ws) (w.key ∷ []) f.rise (tt, tt)
-            (each_map (λ k. IsUnder k w.key) (λ k. Each (IsUnder k) (w.key ∷ [])) (λ k u. (u, tt)) (twig_keys ws) under));
+            (rises_append (subtree_keys ws) (w.key ∷ []) f.rise (tt, tt)
+            (each_map (λ k. IsUnder k w.key) (λ k. Each (IsUnder k) (w.key ∷ [])) (λ k u. (u, tt)) (subtree_keys ws) under));
         within = subst (Each (IsWithin to)) (sym keys)
-            (each_append (IsWithin to) (twig_keys ws) (w.key ∷ [])
-            (each_map (λ k. IsUnder k w.key) (IsWithin to) (λ k u. within_wider to w.key k above u) (twig_keys ws) under) (above, tt));
+            (each_append (IsWithin to) (subtree_keys ws) (w.key ∷ [])
+            (each_map (λ k. IsUnder k w.key) (IsWithin to) (λ k u. within_wider to w.key k above u) (subtree_keys ws) under) (above, tt));
       }
 
-  pub fan_more : (before so_far so_far' : List ℕ) → HasFoundFan s d low high arms i before so_far → HasFoundPart s child.child d from to so_far so_far'
-      → HasFoundFan s d low high arms (i + 1) before so_far'
+  pub fan_more : (before so_far so_far' : List ℕ) → HasFoundFan s d low high pivots i before so_far → HasFoundPart s child.child d from to so_far so_far'
+      → HasFoundFan s d low high pivots (i + 1) before so_far'
   fan_more before so_far so_far' f p =
-      let w : Twig (Body d) = record { key = child.key; page = child.child; body = p.body } in
-      let long : length f.twigs ≡ i =
-      omega (arith, long_map (arm_of {B = Body d}) f.twigs, ap length f.is, length-take i arms, slice_get_within arms i child got) in
-      let r : IsRisingFan (f.twigs ++ w ∷ []) to =
-      longer f.twigs w long refl (record { fan = f.fan; rise = f.rise; within = f.within }) (p.whole, p.sound) p.within in
+      let w : Subtree (Body d) = record { key = child.key; page = child.child; body = p.body } in
+      let long : length f.subtrees ≡ i =
+      omega (arith, long_map (pivot_of {B = Body d}) f.subtrees, ap length f.is, length-take i pivots, slice_get_within pivots i child got) in
+      let r : IsRisingFan (f.subtrees ++ w ∷ []) to =
+      longer f.subtrees w long refl (record { fan = f.fan; rise = f.rise; within = f.within }) (p.whole, p.sound) p.within in
       record {
-        twigs = f.twigs ++ w ∷ [];
-        is = next_taken arms i child got ∙ (λ j. f.is j ++ child ∷ []) ∙ sym (map_append arm_of f.twigs (w ∷ []));
-        shown = each_append (λ (t : Twig (Body d)). IsAt s t.page (content_of d t.body) × Shows s d t.body) f.twigs (w ∷ []) f.shown ((p.at, p.shown), tt);
-        fan = subst (λ (b : Option (List ℕ)). IsFan Lies b (with_low low (f.twigs ++ w ∷ []))) (sym to_is) r.fan;
+        subtrees = f.subtrees ++ w ∷ [];
+        is = next_taken pivots i child got ∙ (λ j. f.is j ++ child ∷ []) ∙ sym (map_append pivot_of f.subtrees (w ∷ []));
+        shown = each_append (λ (t : Subtree (Body d)). IsAt s t.page (content_of d t.body) × Shows s d t.body) f.subtrees (w ∷ []) f.shown
+            ((p.at, p.shown), tt);
+        fan = subst (λ (b : Option (List ℕ)). IsFan Lies b (with_low low (f.subtrees ++ w ∷ []))) (sym to_is) r.fan;
         rise = r.rise;
-        within = subst (λ (b : Option (List ℕ)). Each (IsWithin b) (twig_keys (with_low low (f.twigs ++ w ∷ [])))) (sym to_is) r.within;
+        within = subst (λ (b : Option (List ℕ)). Each (IsWithin b) (subtree_keys (with_low low (f.subtrees ++ w ∷ [])))) (sym to_is) r.within;
         reached =
             p.reached ∙ ap (λ (l : List ℕ). l ++ child.child ∷ pages_of d p.body) f.reached
-            ∙ append_assoc before (pages_of (suc d) f.twigs) (child.child ∷ pages_of d p.body)
-            ∙ ap (λ (l : List ℕ). before ++ (pages_of (suc d) f.twigs ++ l)) (sym (append-nil (child.child ∷ pages_of d p.body)))
-            ∙ ap (λ (l : List ℕ). before ++ l) (sym (flat_append (λ (t : Twig (Body d)). t.page ∷ pages_of d t.body) f.twigs (w ∷ [])));
+            ∙ append_assoc before (pages_of (suc d) f.subtrees) (child.child ∷ pages_of d p.body)
+            ∙ ap (λ (l : List ℕ). before ++ (pages_of (suc d) f.subtrees ++ l)) (sym (append-nil (child.child ∷ pages_of d p.body)))
+            ∙ ap (λ (l : List ℕ). before ++ l) (sym (flat_append (λ (t : Subtree (Body d)). t.page ∷ pages_of d t.body) f.subtrees (w ∷ [])));
       }
 
-pub branch_found : (s : Store) (page d depth : ℕ) (low : List ℕ) (high : Option (List ℕ)) (arms : List Arm) (i : ℕ) (before mid after : List ℕ)
-    → IsAt s page (branch arms) → IsBranch arms → IsWithin high low → length arms ≤ i → depth ≡ suc d
-    → mid ≡ before ++ page ∷ [] → HasFoundFan s d low high arms i mid after → HasFoundPart s page depth low high before after
-branch_found s page d depth low high arms i before mid after at lawful within all is noted f =
-    let arms_are : arms ≡ map arm_of f.twigs = sym (take_all i arms all) ∙ f.is in
-    let bound : bound_of high (drop i arms) ≡ high = ap (bound_of high) (drop_all i arms all) in
+pub branch_found : (s : Store) (page d depth : ℕ) (low : List ℕ) (high : Option (List ℕ)) (pivots : List Pivot) (i : ℕ) (before mid after : List ℕ)
+    → IsAt s page (branch pivots) → IsBranch pivots → IsWithin high low → length pivots ≤ i → depth ≡ suc d
+    → mid ≡ before ++ page ∷ [] → HasFoundFan s d low high pivots i mid after → HasFoundPart s page depth low high before after
+branch_found s page d depth low high pivots i before mid after at lawful within all is noted f =
+    let pivots_are : pivots ≡ map pivot_of f.subtrees = sym (take_all i pivots all) ∙ f.is in
+    let bound : bound_of high (drop i pivots) ≡ high = ap (bound_of high) (drop_all i pivots all) in
     subst (λ (n : ℕ). HasFoundPart s page n low high before after) (sym is) (record {
-      body = f.twigs;
-      at = subst (λ (those : List Arm). IsAt s page (branch those)) arms_are at;
+      body = f.subtrees;
+      at = subst (λ (those : List Pivot). IsAt s page (branch those)) pivots_are at;
       shown = f.shown;
-      whole = subst IsBranch arms_are lawful;
+      whole = subst IsBranch pivots_are lawful;
       sound = (
-        subst (λ (b : Option (List ℕ)). IsFan (λ from to body. IsWhole d body × IsSound d from to body) b (with_low low f.twigs)) bound f.fan,
+        subst (λ (b : Option (List ℕ)). IsFan (λ from to body. IsWhole d body × IsSound d from to body) b (with_low low f.subtrees)) bound f.fan,
         f.rise,
-        subst (λ (b : Option (List ℕ)). Each (IsWithin b) (twig_keys (with_low low f.twigs))) bound f.within,
+        subst (λ (b : Option (List ℕ)). Each (IsWithin b) (subtree_keys (with_low low f.subtrees))) bound f.within,
       );
       within = within;
-      reached = f.reached ∙ ap (λ (l : List ℕ). l ++ pages_of (suc d) f.twigs) noted ∙ append_assoc before (page ∷ []) (pages_of (suc d) f.twigs);
+      reached = f.reached ∙ ap (λ (l : List ℕ). l ++ pages_of (suc d) f.subtrees) noted ∙ append_assoc before (page ∷ []) (pages_of (suc d) f.subtrees);
     })
 
 -- ---- what has to be found
@@ -383,39 +389,42 @@ depth_failed d pages before after (Err f) e is ne = λ damaged. ne (let same : e
 
 -- a child that is part of a tree
 pub child_there : (h1 h2 : History) (root : Root) → now h2 ≡ now h1
-    → (page level d : ℕ) (low : List ℕ) (high : Option (List ℕ)) (twigs : List (Twig (Body d))) (arms : List Arm) (i : ℕ) (a : At twigs i) (child : Arm)
-    (from : List ℕ) (to : Option (List ℕ)) → arms ≡ map arm_of twigs
-    → slice_get arms i ≡ Some child → AreBounds low high arms i from to → IsPart (pages_in h1 root) page level (suc d) low high twigs
+    → (page level d : ℕ) (low : List ℕ) (high : Option (List ℕ)) (subtrees : List (Subtree (Body d))) (pivots : List Pivot) (i : ℕ) (a : At subtrees i)
+    (child : Pivot)
+    (from : List ℕ) (to : Option (List ℕ)) → pivots ≡ map pivot_of subtrees
+    → slice_get pivots i ≡ Some child → AreBounds low high pivots i from to → IsPart (pages_in h1 root) page level (suc d) low high subtrees
     → IsPart (pages_in h2 root) child.child (level + 1) d from to a.mid.body
-child_there h1 h2 root same page level d low high twigs arms i a child from to e got bounds part =
-    let twigs_are : twigs ≡ a.front ++ a.mid ∷ a.back = a.is in
-    let arms_are : arms ≡ map arm_of (a.front ++ a.mid ∷ a.back) = e ∙ ap (map arm_of) twigs_are in
+child_there h1 h2 root same page level d low high subtrees pivots i a child from to e got bounds part =
+    let subtrees_are : subtrees ≡ a.front ++ a.mid ∷ a.back = a.is in
+    let pivots_are : pivots ≡ map pivot_of (a.front ++ a.mid ∷ a.back) = e ∙ ap (map pivot_of) subtrees_are in
     let part' : IsPart (pages_in h1 root) page level (suc d) low high (a.front ++ a.mid ∷ a.back) =
-    subst (λ (ts : List (Twig (Body d))). IsPart (pages_in h1 root) page level (suc d) low high ts) twigs_are part in
-    let bounds' : AreBounds low high (map arm_of (a.front ++ a.mid ∷ a.back)) (length a.front) from to =
-    subst (λ (n : ℕ). AreBounds low high (map arm_of (a.front ++ a.mid ∷ a.back)) n from to) (sym a.place)
-    (subst (λ (those : List Arm). AreBounds low high those i from to) arms_are bounds) in
-    let page_is : a.mid.page ≡ child.child = ap (λ (x : Arm). x.child) (got_there twigs i a arm_of arms child e got) in
+    subst (λ (ts : List (Subtree (Body d))). IsPart (pages_in h1 root) page level (suc d) low high ts) subtrees_are part in
+    let bounds' : AreBounds low high (map pivot_of (a.front ++ a.mid ∷ a.back)) (length a.front) from to =
+    subst (λ (n : ℕ). AreBounds low high (map pivot_of (a.front ++ a.mid ∷ a.back)) n from to) (sym a.place)
+    (subst (λ (those : List Pivot). AreBounds low high those i from to) pivots_are bounds) in
+    let page_is : a.mid.page ≡ child.child = ap (λ (x : Pivot). x.child) (got_there subtrees i a pivot_of pivots child e got) in
     subst (λ (s : Store). IsPart s child.child (level + 1) d from to a.mid.body) (sym (same_pages h1 h2 root same))
     (subst (λ (n : ℕ). IsPart (pages_in h1 root) n (level + 1) d from to a.mid.body) page_is
     (child_part (pages_in h1 root) page level d low high a.front a.mid a.back from to part' bounds'))
 
 -- the pages below it
-pub child_can : (root : Root) (d : ℕ) (twigs : List (Twig (Body d))) (arms : List Arm) (i : ℕ) (a : At twigs i) (child : Arm) → arms ≡ map arm_of twigs
-    → slice_get arms i ≡ Some child → (limit : ℕ) (start mid : Reached) → CanReach limit start (pages_of (suc d) twigs)
-    → ((limit : ℕ) → IsMarked limit start → IsMarked limit mid) → pages_so_far mid ≡ pages_so_far start ++ pages_of (suc d) (take i twigs)
+pub child_can : (root : Root) (d : ℕ) (subtrees : List (Subtree (Body d))) (pivots : List Pivot) (i : ℕ) (a : At subtrees i) (child : Pivot)
+    → pivots ≡ map pivot_of subtrees
+    → slice_get pivots i ≡ Some child → (limit : ℕ) (start mid : Reached) → CanReach limit start (pages_of (suc d) subtrees)
+    → ((limit : ℕ) → IsMarked limit start → IsMarked limit mid) → pages_so_far mid ≡ pages_so_far start ++ pages_of (suc d) (take i subtrees)
     → CanReach limit mid (child.child ∷ pages_of d a.mid.body)
-child_can root d twigs arms i a child e got limit start mid can marks so_far =
-    let page_is : a.mid.page ≡ child.child = ap (λ (x : Arm). x.child) (got_there twigs i a arm_of arms child e got) in
+child_can root d subtrees pivots i a child e got limit start mid can marks so_far =
+    let page_is : a.mid.page ≡ child.child = ap (λ (x : Pivot). x.child) (got_there subtrees i a pivot_of pivots child e got) in
     subst (λ (p : ℕ). CanReach limit mid (p ∷ pages_of d a.mid.body)) page_is
-    (can_reach_there twigs i a (λ (w : Twig (Body d)). w.page ∷ pages_of d w.body) limit start mid can marks so_far)
+    (can_reach_there subtrees i a (λ (w : Subtree (Body d)). w.page ∷ pages_of d w.body) limit start mid can marks so_far)
 
-pub child_reached : (d : ℕ) (twigs : List (Twig (Body d))) (arms : List Arm) (i : ℕ) (a : At twigs i) (child : Arm) → arms ≡ map arm_of twigs
-    → slice_get arms i ≡ Some child → (before so_far new : List ℕ) → so_far ≡ before ++ pages_of (suc d) (take i twigs)
-    → new ≡ so_far ++ child.child ∷ pages_of d a.mid.body → new ≡ before ++ pages_of (suc d) (take (i + 1) twigs)
-child_reached d twigs arms i a child e got before so_far new is add =
-    let page_is : a.mid.page ≡ child.child = ap (λ (x : Arm). x.child) (got_there twigs i a arm_of arms child e got) in
-    reached_there twigs i a (λ (w : Twig (Body d)). w.page ∷ pages_of d w.body) before so_far new is
+pub child_reached : (d : ℕ) (subtrees : List (Subtree (Body d))) (pivots : List Pivot) (i : ℕ) (a : At subtrees i) (child : Pivot)
+    → pivots ≡ map pivot_of subtrees
+    → slice_get pivots i ≡ Some child → (before so_far new : List ℕ) → so_far ≡ before ++ pages_of (suc d) (take i subtrees)
+    → new ≡ so_far ++ child.child ∷ pages_of d a.mid.body → new ≡ before ++ pages_of (suc d) (take (i + 1) subtrees)
+child_reached d subtrees pivots i a child e got before so_far new is add =
+    let page_is : a.mid.page ≡ child.child = ap (λ (x : Pivot). x.child) (got_there subtrees i a pivot_of pivots child e got) in
+    reached_there subtrees i a (λ (w : Subtree (Body d)). w.page ∷ pages_of d w.body) before so_far new is
     (add ∙ ap (λ (p : ℕ). so_far ++ p ∷ pages_of d a.mid.body) (sym page_is))
 
 pub part_moved : (h0 h1 : History) (root : Root) → now h1 ≡ now h0 → (page level d : ℕ) (low : List ℕ) (high : Option (List ℕ)) (body : Body d)

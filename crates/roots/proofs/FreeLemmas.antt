@@ -3,8 +3,8 @@ use Rattle.std.proofs.Common.{◌≡◌, ◌≢◌, ℕ, ◌-◌, ◌≤◌, inl
 use Rattle.std.specs.Prelude.{None, Result, Ok, Err, MatchResult}
 use Rattle.page.specs.History.{History, Sector, KeepsWord, now, reads}
 use Rattle.page.specs.Crash.{ReadsOnly, IsDurable}
-use Rattle.page.specs.Format.{Sheet}
-use Rattle.page.specs.ImageView.{sheet_of}
+use Rattle.page.specs.Format.{PageModel}
+use Rattle.page.specs.ImageView.{model_of}
 use Rattle.page.specs.declared.page_image.PageImage.{PageImage}
 use Rattle.btree.specs.Calls.{IsPart}
 use Rattle.btree.specs.Keys.{Entry, times}
@@ -17,17 +17,17 @@ use Rattle.roots.specs.declared.root.Root.{Root}
 use Rattle.roots.specs.declared.store.Store.{Store}
 use Rattle.roots.specs.declared.walk.Reached.{Reached}
 use Rattle.roots.specs.Found.{HasFoundPart, ReachesDepth}
-use Rattle.roots.specs.Image.{HasList, HoldsMap, HoldsTree, OpensAs, sheet_at}
+use Rattle.roots.specs.Image.{HasList, HoldsMap, HoldsTree, OpensAs, model_at}
 use Rattle.roots.specs.Listed.{OnlyReads}
 use Rattle.roots.specs.Store.{CountsFailed, CountsFault, IsCommitted, Keeps}
-use Rattle.roots.specs.Walk.{CanReach, IsMarked, Looks, Reaches, ReadsSheet, pages_in, pages_so_far}
+use Rattle.roots.specs.Walk.{CanReach, IsMarked, Looks, Reaches, ReadsPageModel, pages_in, pages_so_far}
 
 -- from the root on
 pub reached_all : (h : History) (root : Root) (old new : Reached) (result : Result ℕ OpenFault)
     → ((d : ℕ) (body : Body d) → IsPart (pages_in h root) root.tree 0 d [] None body → CanReach root.pages old (root.tree ∷ pages_of d body)
     → ReachesDepth d (root.tree ∷ pages_of d body) (pages_so_far old) (pages_so_far new) result)
     → IsMarked root.pages old → pages_so_far old ≡ [] → root.tree ≢ 0 → (pages : List ℕ) (entries : List Entry)
-    → HoldsTree (sheet_at (reads (now h)) root) root pages entries → Reaches pages old new result
+    → HoldsTree (model_at (reads (now h)) root) root pages entries → Reaches pages old new result
 reached_all h root old new result walks marked none some pages entries holds = elim holds.map [
   | inl (zero_is, _) ↦ absurd (some zero_is)
   | inr has ↦
@@ -46,7 +46,7 @@ reached_all h root old new result walks marked none some pages entries holds = e
 -- and what was found is the root's tree
 pub found_all : (h : History) (root : Root) (d : ℕ) (pages before : List ℕ) → before ≡ [] → d ≤ 31 - 0 → AreOnce pages
     → HasFoundPart (pages_in h root) root.tree d [] None before pages
-    → (entries : List Entry) × HoldsTree (sheet_at (reads (now h)) root) root pages entries
+    → (entries : List Entry) × HoldsTree (model_at (reads (now h)) root) root pages entries
 found_all h root d pages before none depth once f = (
   entries_of d f.body,
   record {
@@ -62,14 +62,14 @@ found_all h root d pages before none depth once f = (
 )
 
 pub none_found : (root : Root) (pages : List ℕ) (image : ℕ → List ℕ) → root.tree ≡ 0 → pages ≡ []
-    → (entries : List Entry) × HoldsTree (sheet_at image root) root pages entries
+    → (entries : List Entry) × HoldsTree (model_at image root) root pages entries
 none_found root pages image none is = ([], record { map = inl (none, (is, refl)); once = λ n. omega (arith, ap (times n) is) })
 
 pub reached_from_none : (old new : Reached) (pages : List ℕ) → pages_so_far old ≡ [] → pages_so_far new ≡ pages_so_far old ++ pages → pages_so_far new ≡ pages
 reached_from_none old new pages none is = is ∙ ap (λ (l : List ℕ). l ++ pages) none
 
 pub no_pages : (root : Root) (found pages : List ℕ) (entries : List Entry) (image : ℕ → List ℕ) → root.tree ≡ 0 → found ≡ []
-    → HoldsTree (sheet_at image root) root pages entries → found ≡ pages
+    → HoldsTree (model_at image root) root pages entries → found ≡ pages
 no_pages root found pages entries image none is holds = elim holds.map [
   | inl (_, (empty, _)) ↦ is ∙ sym empty
   | inr has ↦ absurd (omega (arith, none, has.tree.at.number))
@@ -90,11 +90,11 @@ file_failed P N result e is none = subst (λ r. MatchResult r P (λ fault. fault
 pub still_kept : (h0 h1 : History) (root : Root) (live : List ℕ) (entries : List Entry) → ReadsOnly h0 h1 → Keeps h0 root live entries
     → Keeps h1 root live entries
 still_kept h0 h1 root live entries only keeps = record {
-  opens = λ k. subst (λ (s : ℕ → Sector). OpensAs (reads s) root) (sym (only.same k)) (keeps.opens (only.on.kept k));
-  holds = λ k. subst (λ (s : ℕ → Sector). HoldsMap (sheet_at (reads s) root) root live entries) (sym (only.same k)) (keeps.holds (only.on.kept k));
+  opens = λ k. subst (λ (s : ℕ → Sector). OpensAs (reads s) root) (sym (only.same k)) (keeps.opens (only.extends.kept k));
+  holds = λ k. subst (λ (s : ℕ → Sector). HoldsMap (model_at (reads s) root) root live entries) (sym (only.same k)) (keeps.holds (only.extends.kept k));
   durable = λ k parts has j kept.
-      let had = subst (λ (s : ℕ → Sector). HasList (sheet_at (reads s) root) root live parts) (only.same k) has in
-      subst (λ (s : ℕ → Sector). IsDurable (s j)) (sym (only.same k)) (keeps.durable (only.on.kept k) parts had j kept);
+      let had = subst (λ (s : ℕ → Sector). HasList (model_at (reads s) root) root live parts) (only.same k) has in
+      subst (λ (s : ℕ → Sector). IsDurable (s j)) (sym (only.same k)) (keeps.durable (only.extends.kept k) parts had j kept);
 }
 
 -- what only read leaves what is committed
@@ -147,14 +147,14 @@ only_read history result old disk count looks counted =
 -- a page was read
 pub page_read : {D : Type 0} (history : D → History) (page : ℕ) (result : Result PageImage OpenFault) (old : Store D) (disk : D) (count : ℕ)
     → Looks result (history old.disk) (history disk) → IsCounted result old.failed_reads count
-    → (KeepsWord (history disk) → MatchResult result (λ image. sheet_at (reads (now (history old.disk))) old.root page ≡ Ok (sheet_of image))
-    (λ fault. fault ≡ faults.Damaged → (found : Sheet) → sheet_at (reads (now (history old.disk))) old.root page ≡ Ok found → ⊥))
-    → ReadsSheet history page result old (record old { disk = disk; failed_reads = count })
-page_read history page result old disk count looks counted sheet = record {
+    → (KeepsWord (history disk) → MatchResult result (λ image. model_at (reads (now (history old.disk))) old.root page ≡ Ok (model_of image))
+    (λ fault. fault ≡ faults.Damaged → (found : PageModel) → model_at (reads (now (history old.disk))) old.root page ≡ Ok found → ⊥))
+    → ReadsPageModel history page result old (record old { disk = disk; failed_reads = count })
+page_read history page result old disk count looks counted model = record {
   root = refl;
   stopped = refl;
   committed = λ live entries committed. record
       { running = committed.running; keeps = still_kept (history old.disk) (history disk) old.root live entries looks.reads committed.keeps };
-  sheet = sheet;
+  model = model;
   noted = λ keeps. counts_read history old disk count keeps result looks counted;
 }

@@ -6,7 +6,7 @@ use Rattle.std.proofs.lemmas.Bool.Decides.{nat_tests}
 use Rattle.byteorder.specs.Endian.{little_number}
 use Rattle.outcome.specs.Outcome.{◌>>=◌, unless}
 use Rattle.page.specs.Content.{Content}
-use Rattle.page.specs.Format.{Sheet, content_in, generation_in, sheet_in}
+use Rattle.page.specs.Format.{PageModel, content_in, generation_in, model_in}
 use Rattle.page.specs.Page.{page_at}
 use Rattle.page.specs.declared.page_fault.PageFault.{PageFault}
 use Rattle.page.specs.declared.page_fault.PageFault.TheVariants as faults
@@ -14,9 +14,9 @@ use Rattle.page.specs.History.{History, now, reads}
 use Rattle.btree.specs.Keys.{Each, Entry}
 use Rattle.btree.specs.Store.{IsAt}
 use Rattle.btree.proofs.ReachLemmas.{Moves, map_moved}
-use Rattle.freelist.specs.FreeList.{AreOnceBelow, Holds, IsPartition, ListContent, Part, named_by, pages_of}
+use Rattle.freelist.specs.FreeList.{AreOnceBelow, HoldsList, IsPartition, ListContent, Part, named_by, pages_of}
 use Rattle.roots.specs.declared.root.Root.{Root}
-use Rattle.roots.specs.Image.{HasList, list_in, listed_sheet, sheet_at, store_of, content_in as content_of}
+use Rattle.roots.specs.Image.{HasList, list_in, listed_model, model_at, store_of, content_in as content_of}
 use Rattle.roots.specs.Store.{Keeps}
 use Rattle.roots.specs.Turn.{IsTurn, LieBehind, made_or, next_root}
 use Rattle.roots.proofs.OpeningRules.{known}
@@ -40,63 +40,65 @@ generation_later page old new bytes x le is =
     (born == 0) (nat_lt old born) (nat_lt new born) (Ok born) x
     (λ test. grind (arith, nat_tests, test, le)) is
 
-abbrev with_content : ℕ → List ℕ → Result ℕ PageFault → Result Sheet PageFault
+abbrev with_content : ℕ → List ℕ → Result ℕ PageFault → Result PageModel PageFault
 with_content number bytes found = do
   born ← found
   inside ← content_in (slice_index bytes 0) (little_number 2 (drop 2 bytes)) (drop 16 bytes)
   Ok (record { page = number; generation = born; content = inside })
 
-sheet_later : (page old new : ℕ) (bytes : List ℕ) (sheet : Sheet) → old ≤ new → sheet_in page old bytes ≡ Ok sheet → sheet_in page new bytes ≡ Ok sheet
-sheet_later page old new bytes sheet le is = go (generation_in page old bytes) refl is
+model_later : (page old new : ℕ) (bytes : List ℕ) (model : PageModel) → old ≤ new → model_in page old bytes ≡ Ok model → model_in page new bytes ≡ Ok model
+model_later page old new bytes model le is = go (generation_in page old bytes) refl is
   where
-    go : (found : Result ℕ PageFault) → generation_in page old bytes ≡ found → with_content page bytes found ≡ Ok sheet → sheet_in page new bytes ≡ Ok sheet
+    go : (found : Result ℕ PageFault) → generation_in page old bytes ≡ found → with_content page bytes found ≡ Ok model → model_in page new bytes ≡ Ok model
     go (Ok born) at there = ap (with_content page bytes) (generation_later page old new bytes born le at) ∙ there
     go (Err e) at there = absurd cc
 
-pub still_read : (image : ℕ → List ℕ) (old new : Root) (n : ℕ) (sheet : Sheet) → old.generation ≤ new.generation → old.pages ≤ new.pages
-    → sheet_at image old n ≡ Ok sheet → sheet_at image new n ≡ Ok sheet
-still_read image old new n sheet le more is = by_tests (nat_lt 0 n) (nat_lt n old.pages) refl is
+pub still_read : (image : ℕ → List ℕ) (old new : Root) (n : ℕ) (model : PageModel) → old.generation ≤ new.generation → old.pages ≤ new.pages
+    → model_at image old n ≡ Ok model → model_at image new n ≡ Ok model
+still_read image old new n model le more is = by_tests (nat_lt 0 n) (nat_lt n old.pages) refl is
   where
     by_tests : (some inside : Bool) → nat_lt n old.pages ≡ inside
-        → (if some && inside then sheet_in n old.generation (page_at image n) else Err faults.Number) ≡ Ok sheet
-        → (if some && nat_lt n new.pages then sheet_in n new.generation (page_at image n) else Err faults.Number) ≡ Ok sheet
+        → (if some && inside then model_in n old.generation (page_at image n) else Err faults.Number) ≡ Ok model
+        → (if some && nat_lt n new.pages then model_in n new.generation (page_at image n) else Err faults.Number) ≡ Ok model
     by_tests true true test there =
         let inside : nat_lt n new.pages ≡ true = grind (arith, nat_tests, test, more) in
-        ap (λ (b : Bool). if b then sheet_in n new.generation (page_at image n) else Err faults.Number) inside
-        ∙ sheet_later n old.generation new.generation (page_at image n) sheet le there
+        ap (λ (b : Bool). if b then model_in n new.generation (page_at image n) else Err faults.Number) inside
+        ∙ model_later n old.generation new.generation (page_at image n) model le there
     by_tests true false test there = absurd cc
     by_tests false inside test there = absurd cc
 
 -- ---- pages of a turn
 
-made_other : (made : List Sheet) (n : ℕ) (other : Result Sheet PageFault) → AllByRecursion (λ (m : Sheet). m.page ≢ n) made → made_or made n other ≡ other
+made_other : (made : List PageModel) (n : ℕ) (other : Result PageModel PageFault) → AllByRecursion (λ (m : PageModel). m.page ≢ n) made
+    → made_or made n other ≡ other
 made_other [] n other ne = refl
 made_other (m ∷ ms) n other ne =
     let test : (m.page == n) ≡ false = grind (arith, nat_tests, ne.0) in
     ap (λ (b : Bool). if b then Ok m else made_or ms n other) test ∙ made_other ms n other ne.1
 
 -- a page that isn't made stays,
-pub kept_there : (image : ℕ → List ℕ) (old : Root) (made : List Sheet) (tree free_list free_count n : ℕ) (content : Content)
-    → AllByRecursion (λ (m : Sheet). m.page ≢ n) made → IsAt (store_of (sheet_at image old)) n content
-    → IsAt (store_of (λ k. made_or made k (sheet_at image (next_root old made tree free_list free_count) k))) n content
+pub kept_there : (image : ℕ → List ℕ) (old : Root) (made : List PageModel) (tree free_list free_count n : ℕ) (content : Content)
+    → AllByRecursion (λ (m : PageModel). m.page ≢ n) made → IsAt (store_of (model_at image old)) n content
+    → IsAt (store_of (λ k. made_or made k (model_at image (next_root old made tree free_list free_count) k))) n content
 kept_there image old made tree free_list free_count n content ne at =
     let next : Root = next_root old made tree free_list free_count in
-    let found : IsFound (sheet_at image old n) content = found_at (sheet_at image old) n content at.live at.holds in
-    let there : made_or made n (sheet_at image next n) ≡ Ok found.sheet =
-    made_other made n (sheet_at image next n) ne ∙ still_read image old next n found.sheet (omega arith) (omega arith) found.is in
+    let found : IsFound (model_at image old n) content = found_at (model_at image old) n content at.live at.holds in
+    let there : made_or made n (model_at image next n) ≡ Ok found.model =
+    made_other made n (model_at image next n) ne ∙ still_read image old next n found.model (omega arith) (omega arith) found.is in
     record { number = at.number; live = ap is_ok there; holds = ap content_of there ∙ found.holds }
 
-all_behind : (last : ℕ) (made : List Sheet) → LieBehind last made → AllByRecursion (λ (m : Sheet). last < m.page) made
+all_behind : (last : ℕ) (made : List PageModel) → LieBehind last made → AllByRecursion (λ (m : PageModel). last < m.page) made
 all_behind last [] lie = tt
 all_behind last (m ∷ ms) lie = (lie.0, weaker m.page ms (all_behind m.page ms lie.1))
   where
-    weaker : (from : ℕ) (rest : List Sheet) → AllByRecursion (λ (x : Sheet). m.page < x.page) rest → AllByRecursion (λ (x : Sheet). last < x.page) rest
+    weaker : (from : ℕ) (rest : List PageModel) → AllByRecursion (λ (x : PageModel). m.page < x.page) rest → AllByRecursion (λ (x : PageModel). last < x.page)
+        rest
     weaker from [] all = tt
     weaker from (x ∷ xs) all = (omega (arith, lie.0, all.0), weaker from xs all.1)
 
-behind_another : (others : ℕ → Result Sheet PageFault) (m : Sheet) (ms xs : List Sheet)
-    → AllByRecursion (λ (x : Sheet). made_or ms x.page (others x.page) ≡ Ok x) xs → AllByRecursion (λ (x : Sheet). m.page < x.page) xs
-    → AllByRecursion (λ (x : Sheet). made_or (m ∷ ms) x.page (others x.page) ≡ Ok x) xs
+behind_another : (others : ℕ → Result PageModel PageFault) (m : PageModel) (ms xs : List PageModel)
+    → AllByRecursion (λ (x : PageModel). made_or ms x.page (others x.page) ≡ Ok x) xs → AllByRecursion (λ (x : PageModel). m.page < x.page) xs
+    → AllByRecursion (λ (x : PageModel). made_or (m ∷ ms) x.page (others x.page) ≡ Ok x) xs
 behind_another others m ms [] all above = tt
 behind_another others m ms (x ∷ xs) all above =
     let lower : m.page < x.page = above.0 in
@@ -104,8 +106,8 @@ behind_another others m ms (x ∷ xs) all above =
     (ap (λ (b : Bool). if b then Ok m else made_or ms x.page (others x.page)) test ∙ all.0, behind_another others m ms xs all.1 above.1)
 
 -- and one that is made is there.
-pub made_there : (others : ℕ → Result Sheet PageFault) (last : ℕ) (made : List Sheet) → LieBehind last made
-    → AllByRecursion (λ (m : Sheet). made_or made m.page (others m.page) ≡ Ok m) made
+pub made_there : (others : ℕ → Result PageModel PageFault) (last : ℕ) (made : List PageModel) → LieBehind last made
+    → AllByRecursion (λ (m : PageModel). made_or made m.page (others m.page) ≡ Ok m) made
 made_there others last [] lie = tt
 made_there others last (m ∷ ms) lie =
     let test : (m.page == m.page) ≡ true = grind (arith, nat_tests) in (
@@ -119,27 +121,27 @@ abbrev pub same_root : Root → Root
 same_root root = next_root root [] root.tree root.free_list root.free_count
 
 all_kept : (image : ℕ → List ℕ) (root : Root) (pages : List ℕ)
-    → Each (Moves (store_of (sheet_at image root)) (store_of (λ k. made_or [] k (sheet_at image (same_root root) k)))) pages
+    → Each (Moves (store_of (model_at image root)) (store_of (λ k. made_or [] k (model_at image (same_root root) k)))) pages
 all_kept image root [] = tt
 all_kept image root (page ∷ pages) =
     ((λ content at. kept_there image root [] root.tree root.free_list root.free_count page content tt at), all_kept image root pages)
 
-parts_kept : (image : ℕ → List ℕ) (root : Root) (parts : List Part) → Holds (list_in (sheet_at image root)) parts
-    → Holds (list_in (sheet_at image (same_root root))) parts
+parts_kept : (image : ℕ → List ℕ) (root : Root) (parts : List Part) → HoldsList (list_in (model_at image root)) parts
+    → HoldsList (list_in (model_at image (same_root root))) parts
 parts_kept image root [] holds = tt
 parts_kept image root (part ∷ rest) holds = (
-  kept_part (sheet_at image root part.page) (sheet_at image (same_root root) part.page)
-      (λ sheet is. still_read image root (same_root root) part.page sheet (omega arith) (omega arith) is) _ holds.0,
+  kept_part (model_at image root part.page) (model_at image (same_root root) part.page)
+      (λ model is. still_read image root (same_root root) part.page model (omega arith) (omega arith) is) _ holds.0,
   parts_kept image root rest holds.1,
 )
   where
-    kept_part : (old new : Result Sheet PageFault) → ((sheet : Sheet) → old ≡ Ok sheet → new ≡ Ok sheet) → (content : ListContent)
-        → listed_sheet old ≡ Some content → listed_sheet new ≡ Some content
-    kept_part (Ok sheet) new still content is = ap listed_sheet (still sheet refl) ∙ is
+    kept_part : (old new : Result PageModel PageFault) → ((model : PageModel) → old ≡ Ok model → new ≡ Ok model) → (content : ListContent)
+        → listed_model old ≡ Some content → listed_model new ≡ Some content
+    kept_part (Ok model) new still content is = ap listed_model (still model refl) ∙ is
     kept_part (Err fault) new still content is = absurd cc
 
-list_kept : (image : ℕ → List ℕ) (root : Root) (live : List ℕ) (parts : List Part) → 0 < root.pages → HasList (sheet_at image root) root live parts
-    → HasList (sheet_at image (same_root root)) (same_root root) live parts
+list_kept : (image : ℕ → List ℕ) (root : Root) (live : List ℕ) (parts : List Part) → 0 < root.pages → HasList (model_at image root) root live parts
+    → HasList (model_at image (same_root root)) (same_root root) live parts
 list_kept image root live parts some has =
     let count : root.pages ≡ (same_root root).pages = omega (arith, some) in
     record {
@@ -157,14 +159,14 @@ pub same_turn : (h : History) (root : Root) (live : List ℕ) (entries : List En
 same_turn h root live entries keeps = record {
   ascending = tt;
   inside = tt;
-  sheets = tt;
+  models = tt;
   free = λ k parts has. tt;
   holds = λ k.
       let image = reads (now h) in
       let inside = known (image 0) (image 1) root (keeps.opens k) in
       let holds = keeps.holds k in
       record {
-        map = map_moved (store_of (sheet_at image root)) (store_of (λ n. made_or [] n (sheet_at image (same_root root) n))) root.tree live entries
+        map = map_moved (store_of (model_at image root)) (store_of (λ n. made_or [] n (model_at image (same_root root) n))) root.tree live entries
             (all_kept image root live) holds.map;
         once = holds.once;
         listed = (holds.listed.0, list_kept image root live holds.listed.0 (omega (arith, inside.tree)) holds.listed.1);

@@ -11,7 +11,7 @@ use Rattle.std.proofs.lemmas.Option.{same_Some}
 use Rattle.freelist.proofs.MadeLists.{once, reads_back}
 use Rattle.freelist.proofs.Marking.{times_in-append, times_in_front}
 use Rattle.freelist.specs.Book.{Book}
-use Rattle.freelist.specs.FreeList.{AreOnceBelow, Holds, ListContent, first_page, room_for, times_in, written}
+use Rattle.freelist.specs.FreeList.{AreOnceBelow, HoldsList, ListContent, first_page, room_for, times_in, written}
 use Rattle.freelist.specs.ListLaws.{GivesBack}
 use Rattle.freelist.specs.ListReading.{ReadsList}
 use Rattle.freelist.specs.ListWriting.{IsMade, content_at, count_with}
@@ -20,12 +20,12 @@ use Rattle.freelist.specs.declared.list_fault.ListFault.{ListFault}
 use Rattle.freelist.specs.declared.list_fault.ListFault.TheVariants as lists
 use Rattle.page.proofs.PagesBack.{reads_back as page_back}
 use Rattle.page.specs.Content.{free_list}
-use Rattle.page.specs.Format.{Sheet, sheet_in}
+use Rattle.page.specs.Format.{PageModel, model_in}
 use Rattle.page.specs.History.{History}
-use Rattle.page.specs.PageLaws.{IsSheet}
+use Rattle.page.specs.PageLaws.{IsPageModel}
 use Rattle.page.specs.declared.page_fault.PageFault.{PageFault}
-use Rattle.roots.specs.Image.{listed_sheet, sheet_at}
-use Rattle.roots.specs.Listed.{list_sheets, listed_fault, listed_in}
+use Rattle.roots.specs.Image.{listed_model, model_at}
+use Rattle.roots.specs.Listed.{list_models, listed_fault, listed_in}
 use Rattle.roots.specs.Turn.{AreWritten}
 use Rattle.roots.specs.Walk.{HasCause}
 use Rattle.roots.specs.declared.opening.OpenFault.{OpenFault}
@@ -34,9 +34,9 @@ use Rattle.roots.specs.declared.root.Root.{Root}
 
 -- ---- a page that isn't read
 
-pub no_part : (sheet : Result Sheet PageFault) → ((found : Sheet) → sheet ≡ Ok found → ⊥) → (content : ListContent)
-    → listed_sheet sheet ≡ Some content → ⊥
-no_part (Ok sheet) none content is = none sheet refl
+pub no_part : (model : Result PageModel PageFault) → ((found : PageModel) → model ≡ Ok found → ⊥) → (content : ListContent)
+    → listed_model model ≡ Some content → ⊥
+no_part (Ok model) none content is = none model refl
 no_part (Err fault) none content is = cc
 
 -- a page was damaged only where it wasn't one of the file
@@ -90,7 +90,7 @@ next_small page_count (page ∷ pages) named few all = omega (arith, all.0.1, fe
 -- it can be written
 pub list_is_written : (bound generation page_count : ℕ) → 1 ≤ generation → generation ≤ bound → generation < 2 ^ 64 → page_count ≤ 1048576
     → (pages named : List ℕ) → AllByRecursion (λ (n : ℕ). (0 < n) × (n < page_count)) pages
-    → ((n : ℕ) → times_in n named ≤ room_for page_count n) → AllByRecursion (IsSheet bound) (list_sheets generation (written pages named))
+    → ((n : ℕ) → times_in n named ≤ room_for page_count n) → AllByRecursion (IsPageModel bound) (list_models generation (written pages named))
 list_is_written bound generation page_count some until small few [] named all room = tt
 list_is_written bound generation page_count some until small few (page ∷ pages) named all room = (
   record {
@@ -110,27 +110,27 @@ list_is_written bound generation page_count some until small few (page ∷ pages
 
 module _ (image : ℕ → List ℕ) (root : Root) (generation : ℕ) (some : 1 ≤ generation) (until : generation ≤ root.generation)
     (small : root.generation < 2 ^ 64) (few : root.pages ≤ 1048576) where
-  one_there : (sheet : Sheet) → 0 < sheet.page → sheet.page < root.pages → IsSheet root.generation sheet
-      → AreWritten image (sheet ∷ []) → sheet_at image root sheet.page ≡ Ok sheet
-  one_there sheet positive inside is there =
-      let first : nat_lt 0 sheet.page ≡ true = grind (arith, nat_tests) in
-      let last : nat_lt sheet.page root.pages ≡ true = grind (arith, nat_tests) in
-      rw (first, last) (ap (sheet_in sheet.page root.generation) there.0 ∙ page_back root.generation sheet is)
+  one_there : (model : PageModel) → 0 < model.page → model.page < root.pages → IsPageModel root.generation model
+      → AreWritten image (model ∷ []) → model_at image root model.page ≡ Ok model
+  one_there model positive inside is there =
+      let first : nat_lt 0 model.page ≡ true = grind (arith, nat_tests) in
+      let last : nat_lt model.page root.pages ≡ true = grind (arith, nat_tests) in
+      rw (first, last) (ap (model_in model.page root.generation) there.0 ∙ page_back root.generation model is)
 
   pub holds_written : (pages named : List ℕ) → AllByRecursion (λ (n : ℕ). (0 < n) × (n < root.pages)) pages
-      → ((n : ℕ) → times_in n named ≤ room_for root.pages n) → AreWritten image (list_sheets generation (written pages named))
-      → Holds (listed_in image root) (written pages named)
+      → ((n : ℕ) → times_in n named ≤ room_for root.pages n) → AreWritten image (list_models generation (written pages named))
+      → HoldsList (listed_in image root) (written pages named)
   holds_written [] named all room there = tt
   holds_written (page ∷ pages) named all room there =
-      let all_sheets =
+      let all_models =
       list_is_written root.generation generation root.pages some until (omega (arith, until, small)) few (page ∷ pages) named all room in (
-        ap listed_sheet (one_there _ all.0.0 all.0.1 all_sheets.0 (there.0, tt)),
+        ap listed_model (one_there _ all.0.0 all.0.1 all_models.0 (there.0, tt)),
         holds_written pages (drop 1019 named) all.1 (λ n. omega (arith, room n, times_behind n 1019 named)) there.1,
       )
 
 pub list_there : (image : ℕ → List ℕ) (root : Root) (generation : ℕ) (pages named : List ℕ) → 1 ≤ generation → generation ≤ root.generation
     → root.generation < 2 ^ 64 → root.pages ≤ 1048576 → AreOnceBelow root.pages (pages ++ named)
-    → AreWritten image (list_sheets generation (written pages named)) → Holds (listed_in image root) (written pages named)
+    → AreWritten image (list_models generation (written pages named)) → HoldsList (listed_in image root) (written pages named)
 list_there image root generation pages named some until small few once_each there =
     holds_written image root generation some until small few pages named
     (all_pages root.pages pages (λ n. omega (arith, once_each n, times_in-append n pages named)))
@@ -139,12 +139,12 @@ list_there image root generation pages named some until small few once_each ther
 pub list_read : (image : ℕ → List ℕ) (root : Root) (page_count : ℕ) (pages named : List ℕ) (old new : Book) → IsMade page_count pages named old new
     → 1 ≤ root.generation → root.generation < 2 ^ 64 → root.pages ≤ 1048576 → root.pages ≡ count_with page_count pages
     → root.free_list ≡ first_page (written pages named) → root.free_count ≡ length named
-    → AreWritten image (list_sheets root.generation (written pages named)) → (result : Result FreeList ListFault)
+    → AreWritten image (list_models root.generation (written pages named)) → (result : Result FreeList ListFault)
     → ReadsList (listed_in image root) root.pages root.free_list root.free_count result → GivesBack pages named result
 list_read image root page_count pages named old new made some small few pages_are first_is count_is there result read =
     let once_each : AreOnceBelow root.pages (pages ++ named) =
     subst (λ (n : ℕ). AreOnceBelow n (pages ++ named)) (sym pages_are) (once page_count pages named old new made) in
-    let holds : Holds (listed_in image root) (written pages named) =
+    let holds : HoldsList (listed_in image root) (written pages named) =
     list_there image root root.generation pages named some (omega arith) small few once_each there in
     reads_back page_count pages named old new made (listed_in image root) holds result
     (subst (λ (n : ℕ). ReadsList (listed_in image root) (count_with page_count pages) (first_page (written pages named)) n result) count_is
@@ -153,31 +153,31 @@ list_read image root page_count pages named old new made some small few pages_ar
 
 -- ---- the pages of a list, one after the other
 
-pub sheets_long : (generation : ℕ) (pages named : List ℕ) → length (list_sheets generation (written pages named)) ≡ length pages
-sheets_long generation [] named = refl
-sheets_long generation (page ∷ pages) named = omega (arith, sheets_long generation pages (drop 1019 named))
+pub models_long : (generation : ℕ) (pages named : List ℕ) → length (list_models generation (written pages named)) ≡ length pages
+models_long generation [] named = refl
+models_long generation (page ∷ pages) named = omega (arith, models_long generation pages (drop 1019 named))
 
-abbrev sheet_for : ℕ → ℕ → ListContent → Sheet
-sheet_for page generation content = record { page = page; generation = generation; content = free_list content.next content.named }
+abbrev model_for : ℕ → ℕ → ListContent → PageModel
+model_for page generation content = record { page = page; generation = generation; content = free_list content.next content.named }
 
-sheet_written : (generation : ℕ) (pages named : List ℕ) (at : ℕ) (content : ListContent) (other : Sheet) → at < length pages
+model_written : (generation : ℕ) (pages named : List ℕ) (at : ℕ) (content : ListContent) (other : PageModel) → at < length pages
     → content_at (written pages named) at ≡ Some content
-    → get_or (list_sheets generation (written pages named)) at other ≡ sheet_for (get_or pages at 0) generation content
-sheet_written generation [] named at content other within is = absurd (omega (arith, within))
-sheet_written generation (page ∷ pages) named zero content other within is =
-    ap (sheet_for page generation)
+    → get_or (list_models generation (written pages named)) at other ≡ model_for (get_or pages at 0) generation content
+model_written generation [] named at content other within is = absurd (omega (arith, within))
+model_written generation (page ∷ pages) named zero content other within is =
+    ap (model_for page generation)
     (same_Some (record { next = first_page (written pages (drop 1019 named)); named = take 1019 named }) content is)
-sheet_written generation (page ∷ pages) named (suc at) content other within is =
-    sheet_written generation pages (drop 1019 named) at content other (omega (arith, within)) is
+model_written generation (page ∷ pages) named (suc at) content other within is =
+    model_written generation pages (drop 1019 named) at content other (omega (arith, within)) is
 
-pub sheets_more : (generation : ℕ) (pages named : List ℕ) (at page : ℕ) (content : ListContent) (sheet : Sheet) (before after : List Sheet)
+pub models_more : (generation : ℕ) (pages named : List ℕ) (at page : ℕ) (content : ListContent) (model : PageModel) (before after : List PageModel)
     → at < length pages → content_at (written pages named) at ≡ Some content → page ≡ get_or pages at 0
-    → sheet ≡ sheet_for page generation content → before ≡ take at (list_sheets generation (written pages named)) → after ≡ before ++ sheet ∷ []
-    → after ≡ take (at + 1) (list_sheets generation (written pages named))
-sheets_more generation pages named at page content sheet before after within there page_is sheet_is before_is after_is =
-    let all : List Sheet = list_sheets generation (written pages named) in
-    let here : get_or all at sheet ≡ sheet =
-    sheet_written generation pages named at content sheet within there
-    ∙ ap (λ (n : ℕ). sheet_for n generation content) (sym page_is) ∙ sym sheet_is in
-    after_is ∙ ap (λ (xs : List Sheet). xs ++ sheet ∷ []) before_is ∙ ap (λ (x : Sheet). take at all ++ x ∷ []) (sym here)
-    ∙ sym (take_more all at sheet (omega (arith, within, sheets_long generation pages named)))
+    → model ≡ model_for page generation content → before ≡ take at (list_models generation (written pages named)) → after ≡ before ++ model ∷ []
+    → after ≡ take (at + 1) (list_models generation (written pages named))
+models_more generation pages named at page content model before after within there page_is model_is before_is after_is =
+    let all : List PageModel = list_models generation (written pages named) in
+    let here : get_or all at model ≡ model =
+    model_written generation pages named at content model within there
+    ∙ ap (λ (n : ℕ). model_for n generation content) (sym page_is) ∙ sym model_is in
+    after_is ∙ ap (λ (xs : List PageModel). xs ++ model ∷ []) before_is ∙ ap (λ (x : PageModel). take at all ++ x ∷ []) (sym here)
+    ∙ sym (take_more all at model (omega (arith, within, models_long generation pages named)))

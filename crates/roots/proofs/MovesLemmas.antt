@@ -1,9 +1,9 @@
 -- How a commit moves from the one map to the other.
 use Rattle.std.proofs.Common.{◌≡◌, ℕ, ◌+◌, ◌%◌, ◌^◌, ◌<◌, max, inl, List, ◌∙◌, ap, Ok, Err}
 use Rattle.std.specs.Prelude.{◌⊎◌, Result, OnOk}
-use Rattle.page.specs.Format.{Sheet}
+use Rattle.page.specs.Format.{PageModel}
 use Rattle.page.specs.History.{History, KeepsWord, now, reads}
-use Rattle.page.specs.Crash.{GoesOn, LeavesOnly, IsImageOutside, AreDurable, put}
+use Rattle.page.specs.Crash.{ExtendsHistory, LeavesOnly, IsImageOutside, AreDurable, put}
 use Rattle.page.proofs.Moments.{leaves_weaker, started}
 use Rattle.btree.specs.Keys.{Entry}
 use Rattle.roots.specs.Replace.{IsOldOrPut}
@@ -17,22 +17,22 @@ use Rattle.roots.specs.Store.{IsCommitted, Keeps}
 use Rattle.roots.specs.Turn.{AreWritten, IsTurn, end_behind, next_root, numbers_of}
 use Rattle.roots.proofs.TurnLemmas.{writing, all_moments, now_kept, stands_now}
 
-module _ (h0 h1 : History) (old next : Root) (live pages : List ℕ) (made : List Sheet) (before after : List Entry)
-    (keeps : Keeps h0 old live before) (turn : IsTurn h0 old live made next pages after) (goes : GoesOn h0 h1)
+module _ (h0 h1 : History) (old next : Root) (live pages : List ℕ) (made : List PageModel) (before after : List Entry)
+    (keeps : Keeps h0 old live before) (turn : IsTurn h0 old live made next pages after) (continues : ExtendsHistory h0 h1)
     (others : KeepsWord h1 → (k : ℕ) → (IsOnPages (numbers_of made) k → ⊥) → now h1 k ≡ now h0 k)
     (during : LeavesOnly h0 h1 (IsImageOutside (now h0) (IsOnPages (numbers_of made)))) where
   -- a page wasn't written
   pub cut : {E : Type 0} (r : Result (Unit {0}) E) → OnOk r (Keeps h1 next pages after) → MovesRoot next pages before after r h0 h1
   cut r none = record {
     any_moment = leaves_weaker h0 h1 (λ image. StandsFor image before) (λ image. StandsFor image before ⊎ StandsFor image after) (λ image is. inl is)
-        (writing h0 h1 old next live pages made before after keeps turn goes others during);
+        (writing h0 h1 old next live pages made before after keeps turn continues others during);
     keeps = none;
   }
 
   -- all pages were written, and the root was or wasn't
   module _ (h2 : History) (is : next ≡ next_root old made next.tree next.free_list next.free_count) (few : next.generation < 2 ^ 64)
       (written : KeepsWord h1 → AreWritten (reads (now h1)) made)
-      (sector : List ℕ) (sector_is : sector ≡ root_bytes next) (on : GoesOn h1 h2)
+      (sector : List ℕ) (sector_is : sector ≡ root_bytes next) (extends : ExtendsHistory h1 h2)
       (root_during : LeavesOnly h1 h2 (IsOldOrPut (now h1) (next.generation % 2) sector)) where
     number : next.generation ≡ old.generation + 1
     number = ap (λ (r : Root). r.generation) is
@@ -43,14 +43,16 @@ module _ (h0 h1 : History) (old next : Root) (live pages : List ℕ) (made : Lis
     kept_after : {E : Type 0} (r : Result (Unit {0}) E) → (KeepsWord h2 → OnOk r (AreDurable (now h2)))
         → (KeepsWord h2 → OnOk r (reads (now h2) ≡ put (reads (now h1)) (next.generation % 2) sector)) → OnOk r (Keeps h2 next pages after)
     kept_after (Ok u) synced there =
-        now_kept h0 h1 old next live pages made before after keeps turn goes others number count few written h2 sector sector_is on root_during synced there
+        now_kept h0 h1 old next live pages made before after keeps turn continues others number count few written h2 sector sector_is extends root_during
+        synced there
     kept_after (Err e) synced there = tt
 
     pub moved : {E : Type 0} (r : Result (Unit {0}) E) → (KeepsWord h2 → OnOk r (AreDurable (now h2)))
         → (KeepsWord h2 → OnOk r (reads (now h2) ≡ put (reads (now h1)) (next.generation % 2) sector))
         → MovesRoot next pages before after r h0 h2
     moved r synced there = record {
-      any_moment = all_moments h0 h1 old next live pages made before after keeps turn goes others number count few written h2 sector sector_is on root_during
+      any_moment = all_moments h0 h1 old next live pages made before after keeps turn continues others number count few written h2 sector sector_is extends
+          root_during
           during;
       keeps = kept_after r synced there;
     }
@@ -94,7 +96,7 @@ done history old disk root next pages before after live committed is moves = rec
 }
 
 -- the root that is written is the next one
-pub root_is : (old : Root) (made : List Sheet) (tree pages free_list free_count end : ℕ) → pages ≡ max old.pages end → end ≡ end_behind 1 made
+pub root_is : (old : Root) (made : List PageModel) (tree pages free_list free_count end : ℕ) → pages ≡ max old.pages end → end ≡ end_behind 1 made
     → record { generation = old.generation + 1; tree = tree; pages = pages; free_list = free_list; free_count = free_count }
     ≡ next_root old made tree free_list free_count
 root_is old made tree pages free_list free_count end most is =

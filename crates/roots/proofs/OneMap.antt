@@ -2,15 +2,15 @@
 use Rattle.std.proofs.Common.{◌≡◌, ℕ, zero, suc, ◌<◌, List, [], ◌∷◌, ◌++◌, length, map, take, drop, inl, inr, refl, sym, ◌∙◌, ap, subst, arith}
 use Rattle.std.specs.Prelude.{Result, Ok}
 use Rattle.std.proofs.lemmas.List.{take-append-drop}
-use Rattle.page.specs.Content.{Content, Item, Arm, chain}
+use Rattle.page.specs.Content.{Content, Item, Pivot, chain}
 use Rattle.btree.specs.Keys.{Each, Entry, Pair, entry_of}
 use Rattle.btree.specs.Store.{Store, IsAt}
-use Rattle.btree.specs.Tree.{Body, HasChain, HasLinks, Shows, Twig, arm_of, content_of, entries_of, item_of, next_of, pairs_of, place_of, pages_of}
+use Rattle.btree.specs.Tree.{Body, HasChain, HasLinks, Shows, Subtree, pivot_of, content_of, entries_of, item_of, next_of, pairs_of, place_of, pages_of}
 use Rattle.btree.proofs.ListLemmas.{map_append}
 use Rattle.btree.specs.Reach.{HasMap}
 use Rattle.roots.specs.declared.opening.OpenFault.{OpenFault}
 use Rattle.roots.specs.declared.root.Root.{Root}
-use Rattle.roots.specs.Image.{HoldsMap, StandsFor, sheet_at, store_of}
+use Rattle.roots.specs.Image.{HoldsMap, StandsFor, model_at, store_of}
 
 chain_next : (next other : ℕ) (bytes others : List ℕ) → chain next bytes ≡ chain other others → next ≡ other
 chain_next next other bytes others e = cc
@@ -72,17 +72,17 @@ module _ (s : Store) where
 
   module _ (d d' : ℕ) (one : (b : Body d) (c : Body d') → content_of d b ≡ content_of d' c → Shows s d b → Shows s d' c
       → SameMap (entries_of d b) (entries_of d' c) (pages_of d b) (pages_of d' c)) where
-    one_fan : (ws : List (Twig (Body d))) (vs : List (Twig (Body d'))) → map arm_of ws ≡ map arm_of vs → Shows s (suc d) ws → Shows s (suc d') vs
+    one_fan : (ws : List (Subtree (Body d))) (vs : List (Subtree (Body d'))) → map pivot_of ws ≡ map pivot_of vs → Shows s (suc d) ws → Shows s (suc d') vs
         → SameMap (entries_of (suc d) ws) (entries_of (suc d') vs) (pages_of (suc d) ws) (pages_of (suc d') vs)
     one_fan [] [] e h g = record { entries_are = refl; pages_are = refl }
     one_fan [] (v ∷ vs) e h g = absurd cc
     one_fan (w ∷ ws) [] e h g = absurd cc
     one_fan (w ∷ ws) (v ∷ vs) e h g =
-        let arm : arm_of w ≡ arm_of v = cc in
-        let arms : map arm_of ws ≡ map arm_of vs = cc in
-        let page : w.page ≡ v.page = ap (λ (a : Arm). a.child) arm in
+        let pivot : pivot_of w ≡ pivot_of v = cc in
+        let pivots : map pivot_of ws ≡ map pivot_of vs = cc in
+        let page : w.page ≡ v.page = ap (λ (a : Pivot). a.child) pivot in
         let child = one w.body v.body (sym h.0.0.holds ∙ ap s.page page ∙ g.0.0.holds) h.0.1 g.0.1 in
-        let rest = one_fan ws vs arms h.1 g.1 in
+        let rest = one_fan ws vs pivots h.1 g.1 in
         record {
           entries_are =
               map_append entry_of (pairs_of d w.body) (pairs_of (suc d) ws) ∙ (λ i. child.entries_are i ++ rest.entries_are i)
@@ -95,7 +95,7 @@ module _ (s : Store) where
   one_body zero zero b c e h g = one_leaf b c (let items : map item_of b ≡ map item_of c = cc in items) h g
   one_body zero (suc d') b c e h g = absurd cc
   one_body (suc d) zero b c e h g = absurd cc
-  one_body (suc d) (suc d') b c e h g = one_fan d d' (one_body d d') b c (let arms : map arm_of b ≡ map arm_of c = cc in arms) h g
+  one_body (suc d) (suc d') b c e h g = one_fan d d' (one_body d d') b c (let pivots : map pivot_of b ≡ map pivot_of c = cc in pivots) h g
 
   pub one_map : (root : ℕ) (pages pages' : List ℕ) (entries entries' : List Entry) → HasMap s root pages entries → HasMap s root pages' entries'
       → SameMap entries entries' pages pages'
@@ -116,5 +116,5 @@ root_alone a b found one two = grind (arith, one, two)
 pub one_state : (image : ℕ → List ℕ) (a b : List Entry) → StandsFor image a → StandsFor image b → a ≡ b
 one_state image a b one two =
     let root : two.root ≡ one.root = root_alone two.root one.root _ two.opens one.opens in
-    let holds : HoldsMap (sheet_at image one.root) one.root two.pages b = subst (λ (r : Root). HoldsMap (sheet_at image r) r two.pages b) root two.holds in
-    (one_map (store_of (sheet_at image one.root)) one.root.tree one.pages two.pages a b one.holds.map holds.map).entries_are
+    let holds : HoldsMap (model_at image one.root) one.root two.pages b = subst (λ (r : Root). HoldsMap (model_at image r) r two.pages b) root two.holds in
+    (one_map (store_of (model_at image one.root)) one.root.tree one.pages two.pages a b one.holds.map holds.map).entries_are

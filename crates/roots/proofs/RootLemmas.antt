@@ -9,10 +9,10 @@ use Rattle.btree.specs.Keys.{Entry}
 use Rattle.freelist.specs.FreeList.{Part}
 use Rattle.roots.specs.Root.{root_in, both, newer_root, root_bytes, IsPossible}
 use Rattle.roots.specs.Replace.{IsOldOrPut}
-use Rattle.roots.specs.Image.{sheet_at, HasList, HoldsMap, OpensAs, StandsFor, IsKept, reached_by}
+use Rattle.roots.specs.Image.{model_at, HasList, HoldsMap, OpensAs, StandsFor, IsKept, reached_by}
 use Rattle.roots.specs.declared.root.Root.{Root}
 use Rattle.roots.proofs.OpeningRules.{both_gives, read_back}
-use Rattle.roots.proofs.ImageLemmas.{sheet_same, secures}
+use Rattle.roots.proofs.ImageLemmas.{model_same, secures}
 
 newer_even : (even odd : Root) → even.generation % 2 ≡ 0 → odd.generation % 2 ≡ 1 → even.generation ≡ odd.generation + 1 → newer_root even odd ≡ Ok even
 newer_even even odd pe po up =
@@ -35,11 +35,11 @@ put_at : (image : ℕ → List ℕ) (sector : ℕ) (bytes : List ℕ) (k n : ℕ
 put_at image sector bytes k n is ne = put_other image sector bytes k (λ same. ne (same ∙ is))
 
 -- pages lie behind the roots
-pub sheet_beside : (image : ℕ → List ℕ) (sector : ℕ) (bytes : List ℕ) (root : Root) → sector < 2 → (n : ℕ)
-    → sheet_at (put image sector bytes) root n ≡ sheet_at image root n
-sheet_beside image sector bytes root small zero = refl
-sheet_beside image sector bytes root small (suc n) =
-    sheet_same image (put image sector bytes) root (suc n) (λ k here. put_other image sector bytes k (λ same. omega (arith, same, small, here.0)))
+pub model_beside : (image : ℕ → List ℕ) (sector : ℕ) (bytes : List ℕ) (root : Root) → sector < 2 → (n : ℕ)
+    → model_at (put image sector bytes) root n ≡ model_at image root n
+model_beside image sector bytes root small zero = refl
+model_beside image sector bytes root small (suc n) =
+    model_same image (put image sector bytes) root (suc n) (λ k here. put_other image sector bytes k (λ same. omega (arith, same, small, here.0)))
 
 module _ (image : ℕ → List ℕ) (old new : Root) (opens : OpensAs image old) (possible : IsPossible new) (next : new.generation ≡ old.generation + 1) where
   abbrev with_root : ℕ → List ℕ
@@ -66,19 +66,19 @@ module _ (image : ℕ → List ℕ) (old new : Root) (opens : OpensAs image old)
       (both_gives (root_in (image 0)) (root_in (image 1)) old opens)
       [ inl (found, parity) ↦ from_even found parity | inr (found, parity) ↦ from_odd found parity ]
 
-  pub put_holds : (pages : List ℕ) (entries : List Entry) → HoldsMap (sheet_at image new) new pages entries
-      → HoldsMap (sheet_at with_root new) new pages entries
+  pub put_holds : (pages : List ℕ) (entries : List Entry) → HoldsMap (model_at image new) new pages entries
+      → HoldsMap (model_at with_root new) new pages entries
   put_holds pages entries holds =
       let small : new.generation % 2 < 2 = omega arith in
-      subst (λ sheets. HoldsMap sheets new pages entries) (sym (λ i n. sheet_beside image (new.generation % 2) (root_bytes new) new small n i)) holds
+      subst (λ models. HoldsMap models new pages entries) (sym (λ i n. model_beside image (new.generation % 2) (root_bytes new) new small n i)) holds
 
-  pub put_stands : (pages : List ℕ) (entries : List Entry) → HoldsMap (sheet_at image new) new pages entries → StandsFor with_root entries
+  pub put_stands : (pages : List ℕ) (entries : List Entry) → HoldsMap (model_at image new) new pages entries → StandsFor with_root entries
   put_stands pages entries holds = record { root = new; pages = pages; opens = put_opens; holds = put_holds pages entries holds }
 
 module _ (sectors : ℕ → Sector) (old new : Root) (live pages : List ℕ) (parts : List Part) (before after : List Entry) (opens : OpensAs (reads sectors) old)
-    (list : HasList (sheet_at (reads sectors) old) old live parts) (had : HoldsMap (sheet_at (reads sectors) old) old live before)
+    (list : HasList (model_at (reads sectors) old) old live parts) (had : HoldsMap (model_at (reads sectors) old) old live before)
     (durable : (k : ℕ) → IsKept (reached_by live parts) k → IsDurable (sectors k)) (possible : IsPossible new) (next : new.generation ≡ old.generation + 1)
-    (has : HoldsMap (sheet_at (reads sectors) new) new pages after) where
+    (has : HoldsMap (model_at (reads sectors) new) new pages after) where
   image_stands : StandsFor (reads sectors) before
   image_stands = record { root = old; pages = live; opens = opens; holds = had }
 

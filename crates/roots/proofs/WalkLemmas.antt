@@ -4,9 +4,9 @@ use Rattle.std.proofs.Common.{append_assoc, append-nil, length-append, length-ta
 use Rattle.std.specs.Prelude.{is_ok, Some, slice_get, Result, Ok, Err, IfErr, IsErrAnd}
 use Rattle.std.specs.List.{flat_map}
 use Rattle.std.proofs.lemmas.List.{take_all}
-use Rattle.page.specs.Content.{Arm, Content, Item, branch, chain, inline, leaf, spilled}
+use Rattle.page.specs.Content.{Pivot, Content, Item, branch, chain, inline, leaf, spilled}
 use Rattle.btree.proofs.ListLemmas.{At, each_back, flat_append}
-use Rattle.page.specs.Format.{Sheet}
+use Rattle.page.specs.Format.{PageModel}
 use Rattle.page.specs.History.{History, Sector, now, reads}
 use Rattle.page.specs.Crash.{HasRead, ReadsOnly}
 use Rattle.page.specs.declared.page_fault.PageFault.{PageFault}
@@ -17,19 +17,19 @@ use Rattle.page.specs.View.{content_of}
 use Rattle.page.specs.declared.page_content.PageContent.{PageContent}
 use Rattle.page.specs.declared.page_content.PageContent.TheVariants as contents
 use Rattle.btree.specs.Store.{Store, IsAt}
-use Rattle.btree.specs.Tree.{Body, HasLinks, Shows, Twig, arm_of, content_of as content_by, item_of, next_of, place_of, pages_of}
+use Rattle.btree.specs.Tree.{Body, HasLinks, Shows, Subtree, pivot_of, content_of as content_by, item_of, next_of, place_of, pages_of}
 use Rattle.roots.specs.declared.opening.OpenFault.{OpenFault}
 use Rattle.roots.specs.declared.opening.OpenFault.TheVariants as faults
 use Rattle.roots.specs.declared.root.Root.{Root}
 use Rattle.roots.specs.declared.walk.Reached.{Reached}
-use Rattle.roots.specs.Image.{content_in, sheet_at, store_of}
+use Rattle.roots.specs.Image.{content_in, model_at, store_of}
 use Rattle.roots.specs.Walk.{CanReach, HasCause, IsMarked, KeepsMarks, Looks, Reaches, pages_in, pages_so_far}
 use Rattle.roots.proofs.MarkLemmas.{times_append}
 
 -- ---- causes
 
 pub cause_later : (a b c : History) (fault : OpenFault) → ReadsOnly a b → ReadsOnly b c → HasCause b c fault → HasCause a c fault
-cause_later a b c faults.Device first second cause = λ k. omega (arith, first.on.failures (second.on.kept k), cause k)
+cause_later a b c faults.Device first second cause = λ k. omega (arith, first.extends.failures (second.extends.kept k), cause k)
 cause_later a b c faults.Memory first second cause = tt
 cause_later a b c faults.Damaged first second cause = tt
 cause_later a b c faults.NotADatabase first second cause = cause
@@ -45,7 +45,7 @@ pub looks_later : {X : Type 0} (a b c : History) (result : Result X OpenFault) �
 looks_later a b c result first looks = record {
   reads = reads_further a b c first.reads looks.reads;
   cause = if_err_later a b c result first.reads looks.reads looks.cause;
-  clear = λ ne keeps. looks.clear ne keeps ∙ first.clear (looks.reads.on.kept keeps);
+  clear = λ ne keeps. looks.clear ne keeps ∙ first.clear (looks.reads.extends.kept keeps);
 }
 
 -- what was read where that is done
@@ -135,29 +135,29 @@ reaches_failed pages old new (Err f) e is ne = λ damaged. ne (let same : e ≡ 
 
 -- ---- pages that are there
 
-pub record IsFound (found : Result Sheet PageFault) (content : Content) : Type 0 where
-  pub sheet : Sheet
-  pub is : found ≡ Ok sheet
-  pub holds : sheet.content ≡ content
+pub record IsFound (found : Result PageModel PageFault) (content : Content) : Type 0 where
+  pub model : PageModel
+  pub is : found ≡ Ok model
+  pub holds : model.content ≡ content
 
-pub found_at : (sheets : ℕ → Result Sheet PageFault) (n : ℕ) (content : Content) → is_ok (sheets n) ≡ true → content_in (sheets n) ≡ content
-    → IsFound (sheets n) content
-found_at sheets n content live holds = go (sheets n) live holds
+pub found_at : (models : ℕ → Result PageModel PageFault) (n : ℕ) (content : Content) → is_ok (models n) ≡ true → content_in (models n) ≡ content
+    → IsFound (models n) content
+found_at models n content live holds = go (models n) live holds
   where
-    go : (found : Result Sheet PageFault) → is_ok found ≡ true → content_in found ≡ content → IsFound found content
-    go (Ok sheet) live holds = record { sheet = sheet; is = refl; holds = holds }
+    go : (found : Result PageModel PageFault) → is_ok found ≡ true → content_in found ≡ content → IsFound found content
+    go (Ok model) live holds = record { model = model; is = refl; holds = holds }
     go (Err e) live holds = absurd cc
 
 -- what was read there is its content
-pub read_content : (sheets : ℕ → Result Sheet PageFault) (n : ℕ) (content : Content) (sheet : Sheet) → is_ok (sheets n) ≡ true
-    → content_in (sheets n) ≡ content → sheets n ≡ Ok sheet → sheet.content ≡ content
-read_content sheets n content sheet live holds is = ap content_in (sym is) ∙ holds
+pub read_content : (models : ℕ → Result PageModel PageFault) (n : ℕ) (content : Content) (model : PageModel) → is_ok (models n) ≡ true
+    → content_in (models n) ≡ content → models n ≡ Ok model → model.content ≡ content
+read_content models n content model live holds is = ap content_in (sym is) ∙ holds
 
 -- and it can be read
-pub not_damaged : (sheets others : ℕ → Result Sheet PageFault) (n : ℕ) (content : Content) (e : OpenFault) → is_ok (sheets n) ≡ true
-    → content_in (sheets n) ≡ content → others n ≡ sheets n
-    → (e ≡ faults.Damaged → (found : Sheet) → others n ≡ Ok found → ⊥) → e ≢ faults.Damaged
-not_damaged sheets others n content e live holds same none damaged = let f = found_at sheets n content live holds in none damaged f.sheet (same ∙ f.is)
+pub not_damaged : (models others : ℕ → Result PageModel PageFault) (n : ℕ) (content : Content) (e : OpenFault) → is_ok (models n) ≡ true
+    → content_in (models n) ≡ content → others n ≡ models n
+    → (e ≡ faults.Damaged → (found : PageModel) → others n ≡ Ok found → ⊥) → e ≢ faults.Damaged
+not_damaged models others n content e live holds same none damaged = let f = found_at models n content live holds in none damaged f.model (same ∙ f.is)
 
 -- ---- one link more
 
@@ -302,21 +302,22 @@ looks_failed a b c result e is first looks = record {
   reads = reads_further a b c first.reads looks.reads;
   cause = subst (λ r. IfErr r (HasCause a c)) (sym is) (cause_later a b c e first.reads looks.reads looks.cause);
   clear = λ ne keeps.
-      looks.clear (λ device. ne (is ∙ ap Err (let same : e ≡ faults.Device = cc in same))) keeps ∙ first.clear (looks.reads.on.kept keeps);
+      looks.clear (λ device. ne (is ∙ ap Err (let same : e ≡ faults.Device = cc in same))) keeps ∙ first.clear (looks.reads.extends.kept keeps);
 }
 
 pub same_pages : (a b : History) (root : Root) → now b ≡ now a → pages_in b root ≡ pages_in a root
-same_pages a b root same = ap (λ (s : ℕ → Sector). store_of (sheet_at (reads s) root)) same
+same_pages a b root same = ap (λ (s : ℕ → Sector). store_of (model_at (reads s) root)) same
 
 pub at_leaf : (items : List Item) (P : (d : ℕ) → Body d → Type 0) → ((pairs : Body zero) → items ≡ map item_of pairs → P zero pairs) → (d : ℕ) (body : Body d)
     → leaf items ≡ content_by d body → P d body
 at_leaf items P f zero pairs e = f pairs (let same : items ≡ map item_of pairs = cc in same)
-at_leaf items P f (suc d) twigs e = absurd cc
+at_leaf items P f (suc d) subtrees e = absurd cc
 
-pub at_branch : (arms : List Arm) (P : (d : ℕ) → Body d → Type 0) → ((d : ℕ) (twigs : Body (suc d)) → arms ≡ map arm_of twigs → P (suc d) twigs)
-    → (d : ℕ) (body : Body d) → branch arms ≡ content_by d body → P d body
-at_branch arms P f zero pairs e = absurd cc
-at_branch arms P f (suc d) twigs e = f d twigs (let same : arms ≡ map arm_of twigs = cc in same)
+pub at_branch : (pivots : List Pivot) (P : (d : ℕ) → Body d → Type 0)
+    → ((d : ℕ) (subtrees : Body (suc d)) → pivots ≡ map pivot_of subtrees → P (suc d) subtrees)
+    → (d : ℕ) (body : Body d) → branch pivots ≡ content_by d body → P d body
+at_branch pivots P f zero pairs e = absurd cc
+at_branch pivots P f (suc d) subtrees e = f d subtrees (let same : pivots ≡ map pivot_of subtrees = cc in same)
 
 -- a child that can be reached
 pub record IsThere (s : Store) (limit : ℕ) (mid : Reached) (d : ℕ) (page : ℕ) (body : Body d) : Type 0 where
@@ -324,31 +325,32 @@ pub record IsThere (s : Store) (limit : ℕ) (mid : Reached) (d : ℕ) (page : �
   pub shown : Shows s d body
   pub can : CanReach limit mid (page ∷ pages_of d body)
 
-module _ (h1 h2 : History) (root : Root) (same : now h2 ≡ now h1) (d : ℕ) (twigs : List (Twig (Body d))) (arms : List Arm) (e : arms ≡ map arm_of twigs)
-    (i : ℕ) (a : At twigs i) (child : Arm)
-    (found : slice_get arms i ≡ Some child) where
+module _ (h1 h2 : History) (root : Root) (same : now h2 ≡ now h1) (d : ℕ) (subtrees : List (Subtree (Body d))) (pivots : List Pivot)
+    (e : pivots ≡ map pivot_of subtrees)
+    (i : ℕ) (a : At subtrees i) (child : Pivot)
+    (found : slice_get pivots i ≡ Some child) where
   pub page_is : a.mid.page ≡ child.child
-  page_is = ap (λ (x : Arm). x.child) (got_there twigs i a arm_of arms child e found)
+  page_is = ap (λ (x : Pivot). x.child) (got_there subtrees i a pivot_of pivots child e found)
 
-  pub child_there : (limit : ℕ) (start mid : Reached) → Shows (pages_in h1 root) (suc d) twigs → CanReach limit start (pages_of (suc d) twigs)
+  pub child_there : (limit : ℕ) (start mid : Reached) → Shows (pages_in h1 root) (suc d) subtrees → CanReach limit start (pages_of (suc d) subtrees)
       → ((limit : ℕ) → IsMarked limit start → IsMarked limit mid)
-      → pages_so_far mid ≡ pages_so_far start ++ pages_of (suc d) (take i twigs) → IsThere (pages_in h2 root) limit mid d child.child a.mid.body
+      → pages_so_far mid ≡ pages_so_far start ++ pages_of (suc d) (take i subtrees) → IsThere (pages_in h2 root) limit mid d child.child a.mid.body
   child_there limit start mid shown can marks so_far =
       let moved : pages_in h1 root ≡ pages_in h2 root = sym (same_pages h1 h2 root same) in
-      let there = each_there twigs i a
-      (λ (w : Twig (Body d)). IsAt (pages_in h1 root) w.page (content_by d w.body) × Shows (pages_in h1 root) d w.body) shown in
+      let there = each_there subtrees i a
+      (λ (w : Subtree (Body d)). IsAt (pages_in h1 root) w.page (content_by d w.body) × Shows (pages_in h1 root) d w.body) shown in
       record {
         at = subst (λ (p : ℕ). IsAt (pages_in h2 root) p (content_by d a.mid.body)) page_is
             (subst (λ (s : Store). IsAt s a.mid.page (content_by d a.mid.body)) moved there.0);
         shown = subst (λ (s : Store). Shows s d a.mid.body) moved there.1;
         can = subst (λ (p : ℕ). CanReach limit mid (p ∷ pages_of d a.mid.body)) page_is
-            (can_reach_there twigs i a (λ (w : Twig (Body d)). w.page ∷ pages_of d w.body) limit start mid can marks so_far);
+            (can_reach_there subtrees i a (λ (w : Subtree (Body d)). w.page ∷ pages_of d w.body) limit start mid can marks so_far);
       }
 
-  pub child_reached : (before so_far new : List ℕ) → so_far ≡ before ++ pages_of (suc d) (take i twigs) → new ≡ so_far ++ child.child ∷ pages_of d a.mid.body
-      → new ≡ before ++ pages_of (suc d) (take (i + 1) twigs)
+  pub child_reached : (before so_far new : List ℕ) → so_far ≡ before ++ pages_of (suc d) (take i subtrees) → new ≡ so_far ++ child.child ∷ pages_of d a.mid.body
+      → new ≡ before ++ pages_of (suc d) (take (i + 1) subtrees)
   child_reached before so_far new is add =
-      reached_there twigs i a (λ (w : Twig (Body d)). w.page ∷ pages_of d w.body) before so_far new is
+      reached_there subtrees i a (λ (w : Subtree (Body d)). w.page ∷ pages_of d w.body) before so_far new is
       (add ∙ ap (λ (p : ℕ). so_far ++ p ∷ pages_of d a.mid.body) (sym page_is))
 
 pub behind_first : (page : ℕ) (pages before mid new : List ℕ) → mid ≡ before ++ page ∷ [] → new ≡ mid ++ pages → new ≡ before ++ page ∷ pages

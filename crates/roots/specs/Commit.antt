@@ -2,9 +2,9 @@
 use Rattle.std.specs.Prelude.{◌≡◌, ◌≢◌, ◌⊎◌, ℕ, ◌+◌, ◌-◌, ◌^◌, ◌<◌, ◌≤◌, List, true, Result, Err}
 use Rattle.std.specs.Prelude.{OnOk, OnErr}
 use Rattle.std.specs.List.{AllByRecursion}
-use Rattle.page.specs.Format.{Sheet}
+use Rattle.page.specs.Format.{PageModel}
 use Rattle.page.specs.History.{History, KeepsWord, now, reads}
-use Rattle.page.specs.Crash.{GoesOn, LeavesOnly, LeavesNow}
+use Rattle.page.specs.Crash.{ExtendsHistory, LeavesOnly, CrashLeaves}
 use Rattle.btree.specs.Keys.{Entry}
 use Rattle.roots.specs.Image.{IsOnPages, StandsFor}
 use Rattle.roots.specs.Store.{disk_history, durable_root, failed_reads, is_stopped, IsRunning}
@@ -18,7 +18,7 @@ use Rattle.roots.specs.declared.store.CommitFault.TheVariants as faults
 -- The root page of a tree was made the committed one, or not.
 pub record CommitsRoot {D : Type 0} (history : D → History) (root_page : ℕ)
     (result : Result (Unit {0}) CommitFault) (old new : Store D) : Type 0 where
-  pub on : GoesOn (disk_history history old) (disk_history history new)
+  pub extends : ExtendsHistory (disk_history history old) (disk_history history new)
   pub running : OnOk result (IsRunning old × IsRunning new)
   pub version : OnOk result
       ((durable_root new).generation ≡ (durable_root old).generation + 1)
@@ -36,7 +36,7 @@ pub record CommitsRoot {D : Type 0} (history : D → History) (root_page : ℕ)
 
 -- What reads give after it: the pages that were handed in, where it is done, and in each other page
 -- what was there.
-pub record LeavesPages {D : Type 0} (history : D → History) (made : List Sheet)
+pub record LeavesPages {D : Type 0} (history : D → History) (made : List PageModel)
     (tree free_list free_count : ℕ) (result : Result (Unit {0}) CommitFault)
     (old new : Store D) : Type 0 where
   pub others : KeepsWord (disk_history history new) → (k : ℕ) → 2 ≤ k
@@ -44,7 +44,7 @@ pub record LeavesPages {D : Type 0} (history : D → History) (made : List Sheet
       → reads (now (disk_history history new)) k ≡ reads (now (disk_history history old)) k
   pub written : KeepsWord (disk_history history new) → LieBehind 0 made
       → OnOk result (AreWritten (reads (now (disk_history history new))) made)
-  pub root : AllByRecursion (λ (sheet : Sheet). sheet.page < 1048576) made
+  pub root : AllByRecursion (λ (model : PageModel). model.page < 1048576) made
       → OnOk result
       (durable_root new ≡ next_root (durable_root old) made tree free_list free_count)
   pub still : OnErr result (durable_root new ≡ durable_root old)
@@ -56,15 +56,16 @@ pub record MovesMap {D : Type 0} (history : D → History) (next : Root) (pages 
     (old new : Store D) : Type 0 where
   pub any_moment : LeavesOnly (disk_history history old) (disk_history history new)
       (λ image. StandsFor image before ⊎ StandsFor image after)
-  pub acknowledged : OnOk result (LeavesNow (disk_history history new)
+  pub acknowledged : OnOk result (CrashLeaves (disk_history history new)
       (λ image. StandsFor image after))
   pub committed : OnOk result (IsCommitted history new pages after)
   pub root : OnOk result (durable_root new ≡ next)
-  pub kept : result ≡ Err faults.Full → LeavesNow (disk_history history new)
+  pub kept : result ≡ Err faults.Full → CrashLeaves (disk_history history new)
       (λ image. StandsFor image before)
 
 -- For whatever entries are committed, and whatever turn is handed in.
-abbrev pub MovesMaps : {D : Type 0} → (D → History) → List Sheet → (tree free_list free_count : ℕ)
+abbrev pub MovesMaps : {D : Type 0} → (D → History) → List PageModel
+    → (tree free_list free_count : ℕ)
     → Result (Unit {0}) CommitFault → Store D → Store D → Type 0
 MovesMaps history made tree free_list free_count result old new =
     (before : List Entry) (live : List ℕ) → IsCommitted history old live before
@@ -79,7 +80,7 @@ pub record MovesRoot (next : Root) (pages : List ℕ) (before after : List Entry
   pub any_moment : LeavesOnly old new (λ image. StandsFor image before ⊎ StandsFor image after)
   pub keeps : OnOk result (Keeps new next pages after)
 
-abbrev pub MovesDisk : {E : Type 0} → List Sheet → Root → Result (Unit {0}) E
+abbrev pub MovesDisk : {E : Type 0} → List PageModel → Root → Result (Unit {0}) E
     → History → History → Type 0
 MovesDisk made next result old new =
     (root : Root) (before : List Entry) (live : List ℕ) → Keeps old root live before

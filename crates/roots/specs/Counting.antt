@@ -4,7 +4,7 @@ use Rattle.page.specs.History.{History, KeepsWord, now, reads}
 use Rattle.btree.specs.Keys.{Entry}
 use Rattle.roots.specs.HeldFile.{Reaches}
 use Rattle.freelist.specs.FreeList.{Part}
-use Rattle.roots.specs.Image.{HasList, reached_by, sheet_at}
+use Rattle.roots.specs.Image.{HasList, reached_by, model_at}
 use Rattle.roots.specs.Store.{CountsFailed, IsCommitted, disk_history, durable_root, is_stopped}
 use Rattle.roots.specs.declared.counting.PageCounts.{PageCounts}
 use Rattle.roots.specs.declared.opening.OpenFault.{OpenFault}
@@ -21,7 +21,7 @@ pub record AreCounts (root : Root) (live : List ℕ) (counts : PageCounts) : Typ
 -- the counts of what this root reaches in the image: its tree, and the list that it names, if any
 pub record CountsTree (image : ℕ → List ℕ) (root : Root) (counts : PageCounts) : Type 0 where
   pub live : List ℕ
-  pub reaches : Reaches (sheet_at image root) root live
+  pub reaches : Reaches (model_at image root) root live
   pub are : AreCounts root live counts
 
 -- Nothing of the store has changed, and the root has a tree, of which these are the counts; where
@@ -37,7 +37,7 @@ pub record CountsPages {D : Type 0} (history : D → History) (result : Result P
   pub counts : KeepsWord (disk_history history new) → (live : List ℕ) (entries : List Entry)
       → IsCommitted history old live entries → let root = durable_root old in
       (parts : List Part)
-      → HasList (sheet_at (reads (now (disk_history history old))) root) root live parts
+      → HasList (model_at (reads (now (disk_history history old))) root) root live parts
       → MatchResult result (AreCounts root (reached_by live parts))
       (λ fault. fault ≢ faults.Damaged)
   pub noted : KeepsWord (disk_history history new) → CountsFailed history old new

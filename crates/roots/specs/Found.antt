@@ -1,11 +1,12 @@
 -- What a walk over pages finds: the pages that it reached are those of a tree whose keys rise.
 use Rattle.std.specs.Prelude.{◌≡◌, ◌≢◌, ℕ, ◌<◌, suc, zero, List, [], ◌∷◌, ◌++◌, length, take, drop}
 use Rattle.std.specs.Prelude.{map, Option, Some, Result, Ok, Err}
-use Rattle.page.specs.Content.{Arm, Item, Place}
+use Rattle.page.specs.Content.{Pivot, Item, Place}
 use Rattle.btree.specs.Keys.{Each, IsBetween, IsWithin, Pair, Rises}
 use Rattle.btree.specs.Store.{IsAt, Store}
-use Rattle.btree.specs.Tree.{Body, HasLinks, IsFan, IsSound, IsWhole, Shows, Twig, arm_of}
-use Rattle.btree.specs.Tree.{content_of, item_of, next_of, pages_of, pair_keys, place_of, twig_keys}
+use Rattle.btree.specs.Tree.{Body, HasLinks, IsFan, IsSound, IsWhole, Shows, Subtree, pivot_of}
+use Rattle.btree.specs.Tree.{content_of, item_of, next_of, pages_of, pair_keys, place_of}
+use Rattle.btree.specs.Tree.{subtree_keys}
 use Rattle.btree.specs.Tree.{with_low}
 use Rattle.roots.specs.declared.opening.OpenFault.{OpenFault}
 use Rattle.roots.specs.declared.opening.OpenFault.TheVariants as faults
@@ -48,21 +49,22 @@ pub record HasFoundPart (s : Store) (page d : ℕ) (low : List ℕ) (high : Opti
   pub reached : after ≡ before ++ page ∷ pages_of d body
 
 -- the low key of the first one of some last children, or the high bound where there is none
-abbrev pub bound_of : Option (List ℕ) → List Arm → Option (List ℕ)
+abbrev pub bound_of : Option (List ℕ) → List Pivot → Option (List ℕ)
 bound_of high [] = high
-bound_of high (arm ∷ arms) = Some arm.key
+bound_of high (pivot ∷ pivots) = Some pivot.key
 
 -- the parts below the first i children of a branch
 pub record HasFoundFan (s : Store) (d : ℕ) (low : List ℕ) (high : Option (List ℕ))
-    (arms : List Arm) (i : ℕ) (before after : List ℕ) : Type 0 where
-  pub twigs : List (Twig (Body d))
-  pub is : take i arms ≡ map arm_of twigs
-  pub shown : Shows s (suc d) twigs
+    (pivots : List Pivot) (i : ℕ) (before after : List ℕ) : Type 0 where
+  pub subtrees : List (Subtree (Body d))
+  pub is : take i pivots ≡ map pivot_of subtrees
+  pub shown : Shows s (suc d) subtrees
   pub fan : IsFan (λ from to body. IsWhole d body × IsSound d from to body)
-      (bound_of high (drop i arms)) (with_low low twigs)
-  pub rise : Rises (twig_keys (with_low low twigs))
-  pub within : Each (IsWithin (bound_of high (drop i arms))) (twig_keys (with_low low twigs))
-  pub reached : after ≡ before ++ pages_of (suc d) twigs
+      (bound_of high (drop i pivots)) (with_low low subtrees)
+  pub rise : Rises (subtree_keys (with_low low subtrees))
+  pub within : Each (IsWithin (bound_of high (drop i pivots)))
+      (subtree_keys (with_low low subtrees))
+  pub reached : after ≡ before ++ pages_of (suc d) subtrees
 
 -- these pages were reached, below so many levels, or the fault isn't one of the pages
 abbrev pub ReachesDepth : ℕ → List ℕ → List ℕ → List ℕ → Result ℕ OpenFault → Type 0

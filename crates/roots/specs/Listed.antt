@@ -2,7 +2,7 @@
 use Rattle.std.specs.Prelude.{◌≡◌, ℕ, ◌<◌, ◌≤◌, ◌^◌, List, [], ◌∷◌, ◌++◌, length, Option}
 use Rattle.std.specs.Prelude.{Result}
 use Rattle.freelist.specs.Book.{Book}
-use Rattle.freelist.specs.FreeList.{AreOnceBelow, Holds, ListContent, Part, first_page, written}
+use Rattle.freelist.specs.FreeList.{AreOnceBelow, HoldsList, ListContent, Part, first_page, written}
 use Rattle.freelist.specs.ListLaws.{GivesBack}
 use Rattle.freelist.specs.ListReading.{ReadsList}
 use Rattle.freelist.specs.ListWriting.{IsMade, count_with}
@@ -11,9 +11,9 @@ use Rattle.freelist.specs.declared.list_fault.ListFault.{ListFault}
 use Rattle.freelist.specs.declared.list_fault.ListFault.TheVariants as lists
 use Rattle.page.specs.Content.{free_list}
 use Rattle.page.specs.Crash.{HasRead, ReadsOnly}
-use Rattle.page.specs.Format.{Sheet}
+use Rattle.page.specs.Format.{PageModel}
 use Rattle.page.specs.History.{History, KeepsWord, now, reads}
-use Rattle.roots.specs.Image.{listed_sheet, sheet_at}
+use Rattle.roots.specs.Image.{listed_model, model_at}
 use Rattle.roots.specs.Store.{CountsFailed, disk_history, durable_root, is_stopped}
 use Rattle.roots.specs.Turn.{AreWritten}
 use Rattle.roots.specs.declared.opening.OpenFault.{OpenFault}
@@ -23,20 +23,20 @@ use Rattle.roots.specs.declared.store.Store.{Store}
 
 -- what each page of a file with this root is of a list
 abbrev pub listed_in : (ℕ → List ℕ) → Root → ℕ → Option ListContent
-listed_in image root page = listed_sheet (sheet_at image root page)
+listed_in image root page = listed_model (model_at image root page)
 
 abbrev pub listed_by : {D : Type 0} → (D → History) → Store D → ℕ → Option ListContent
 listed_by history store = listed_in (reads (now (disk_history history store))) (durable_root store)
 
 -- the pages of these parts, as a commit of this generation writes them
-abbrev pub list_sheets : ℕ → List Part → List Sheet
-list_sheets generation [] = []
-list_sheets generation (part ∷ rest) =
+abbrev pub list_models : ℕ → List Part → List PageModel
+list_models generation [] = []
+list_models generation (part ∷ rest) =
     record {
       page = part.page;
       generation = generation;
       content = free_list (first_page rest) part.named;
-    } ∷ list_sheets generation rest
+    } ∷ list_models generation rest
 
 -- Where the pages of a list are written, below the page count of a root of their commit or a later
 -- one, they hold the list.
@@ -44,8 +44,8 @@ abbrev pub WrittenListIsThere : Type 0
 WrittenListIsThere = (image : ℕ → List ℕ) (root : Root) (generation : ℕ) (pages named : List ℕ)
     → 1 ≤ generation → generation ≤ root.generation → root.generation < 2 ^ 64
     → root.pages ≤ 1048576 → AreOnceBelow root.pages (pages ++ named)
-    → AreWritten image (list_sheets generation (written pages named))
-    → Holds (listed_in image root) (written pages named)
+    → AreWritten image (list_models generation (written pages named))
+    → HoldsList (listed_in image root) (written pages named)
 
 -- Where a root names a list that was made, and its pages are written, whoever reads it gets it
 -- back.
@@ -54,7 +54,7 @@ WrittenListIsRead = (image : ℕ → List ℕ) (root : Root) (page_count : ℕ) 
     (old new : Book) → IsMade page_count pages named old new → let parts = written pages named in
     1 ≤ root.generation → root.generation < 2 ^ 64 → root.pages ≤ 1048576
     → root.pages ≡ count_with page_count pages → root.free_list ≡ first_page parts
-    → root.free_count ≡ length named → AreWritten image (list_sheets root.generation parts)
+    → root.free_count ≡ length named → AreWritten image (list_models root.generation parts)
     → (result : Result FreeList ListFault)
     → ReadsList (listed_in image root) root.pages root.free_list root.free_count result
     → GivesBack pages named result

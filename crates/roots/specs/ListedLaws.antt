@@ -59,8 +59,9 @@ reads_more history x y z first second = record {
   root = second.root ∙ first.root;
   stopped = second.stopped ∙ first.stopped;
   noted = λ keeps.
-      let mid = second.disk.on.kept keeps in
-      counts_more history x y z (first.disk.on.failures mid) (second.disk.on.failures keeps)
+      let mid = second.disk.extends.kept keeps in
+      counts_more history x y z (first.disk.extends.failures mid)
+      (second.disk.extends.failures keeps)
       (first.noted mid) (second.noted keeps);
 }
 
@@ -68,7 +69,7 @@ pub fails_later : {D : Type 0} (history : D → History) (x y z : Store D) → O
     → HasFailed history y z → HasFailed history x z
 fails_later history x y z first failed word =
     let later = failed word in
-    (first.disk.on.kept later.0, lt_of_le_of_lt (first.disk.on.failures later.0) later.1)
+    (first.disk.extends.kept later.0, lt_of_le_of_lt (first.disk.extends.failures later.0) later.1)
 
 pub clear_none : {D : Type 0} (history : D → History) (x : Store D) → IsClear history x x
 clear_none history x = read_nothing (disk_history history x)

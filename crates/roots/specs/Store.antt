@@ -4,7 +4,7 @@ use Rattle.page.specs.History.{History, KeepsWord, now, reads}
 use Rattle.page.specs.Crash.{IsDurable}
 use Rattle.btree.specs.Keys.{Entry}
 use Rattle.freelist.specs.FreeList.{Part}
-use Rattle.roots.specs.Image.{HasList, HoldsMap, IsKept, OpensAs, reached_by, sheet_at}
+use Rattle.roots.specs.Image.{HasList, HoldsMap, IsKept, OpensAs, reached_by, model_at}
 use Rattle.roots.specs.declared.opening.OpenFault.{OpenFault}
 use Rattle.roots.specs.declared.opening.OpenFault.TheVariants as faults
 use Rattle.roots.specs.declared.root.Root.{Root}
@@ -38,9 +38,9 @@ IsRunning store = is_stopped store ≡ false
 -- entries, and a crash leaves what the roots, these pages and those of the root's list hold.
 pub record Keeps (h : History) (root : Root) (live : List ℕ) (entries : List Entry) : Type 0 where
   pub opens : KeepsWord h → OpensAs (reads (now h)) root
-  pub holds : KeepsWord h → HoldsMap (sheet_at (reads (now h)) root) root live entries
+  pub holds : KeepsWord h → HoldsMap (model_at (reads (now h)) root) root live entries
   pub durable : KeepsWord h → (parts : List Part)
-      → HasList (sheet_at (reads (now h)) root) root live parts
+      → HasList (model_at (reads (now h)) root) root live parts
       → (k : ℕ) → IsKept (reached_by live parts) k → IsDurable (now h k)
 
 -- These entries are committed, and these pages live.

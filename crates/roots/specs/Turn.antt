@@ -3,42 +3,42 @@ use Rattle.std.specs.Prelude.{◌≡◌, ℕ, ◌+◌, ◌<◌, max, if◌then�
 use Rattle.std.specs.Prelude.{Result, Ok}
 use Rattle.std.specs.List.{AllByRecursion}
 use Rattle.page.specs.History.{History, KeepsWord, now, reads}
-use Rattle.page.specs.Format.{Sheet, page_bytes}
+use Rattle.page.specs.Format.{PageModel, page_bytes}
 use Rattle.page.specs.Page.{page_at}
-use Rattle.page.specs.PageLaws.{IsSheet}
+use Rattle.page.specs.PageLaws.{IsPageModel}
 use Rattle.page.specs.declared.page_fault.PageFault.{PageFault}
 use Rattle.btree.specs.Keys.{Entry, times}
 use Rattle.freelist.specs.FreeList.{Part}
-use Rattle.roots.specs.Image.{HasList, HoldsMap, reached_by, sheet_at}
+use Rattle.roots.specs.Image.{HasList, HoldsMap, reached_by, model_at}
 use Rattle.roots.specs.declared.root.Root.{Root}
 
-abbrev pub numbers_of : List Sheet → List ℕ
-numbers_of sheets = map (λ sheet. sheet.page) sheets
+abbrev pub numbers_of : List PageModel → List ℕ
+numbers_of models = map (λ model. model.page) models
 
 -- each page lies behind the one before it, the first behind this one
-abbrev pub LieBehind : ℕ → List Sheet → Type 0
+abbrev pub LieBehind : ℕ → List PageModel → Type 0
 LieBehind last [] = Unit {0}
-LieBehind last (sheet ∷ sheets) = (last < sheet.page) × LieBehind sheet.page sheets
+LieBehind last (model ∷ models) = (last < model.page) × LieBehind model.page models
 
 -- the page of this number among those that were made, or else the other
-abbrev pub made_or : List Sheet → ℕ → Result Sheet PageFault → Result Sheet PageFault
+abbrev pub made_or : List PageModel → ℕ → Result PageModel PageFault → Result PageModel PageFault
 made_or [] page other = other
-made_or (sheet ∷ sheets) page other =
-    if sheet.page == page then Ok sheet else made_or sheets page other
+made_or (model ∷ models) page other =
+    if model.page == page then Ok model else made_or models page other
 
 -- the image has these pages
-abbrev pub AreWritten : (ℕ → List ℕ) → List Sheet → Type 0
+abbrev pub AreWritten : (ℕ → List ℕ) → List PageModel → Type 0
 AreWritten image made =
-    AllByRecursion (λ (sheet : Sheet). page_at image sheet.page ≡ page_bytes sheet) made
+    AllByRecursion (λ (model : PageModel). page_at image model.page ≡ page_bytes model) made
 
 -- the number of pages of a file that ends behind these, with page 0
-abbrev pub end_behind : ℕ → List Sheet → ℕ
+abbrev pub end_behind : ℕ → List PageModel → ℕ
 end_behind end [] = end
-end_behind end (sheet ∷ sheets) = end_behind (sheet.page + 1) sheets
+end_behind end (model ∷ models) = end_behind (model.page + 1) models
 
 -- The root of the next commit, with its list's first page and how many pages that names. The number
 -- of pages never falls.
-abbrev pub next_root : Root → List Sheet → ℕ → ℕ → ℕ → Root
+abbrev pub next_root : Root → List PageModel → ℕ → ℕ → ℕ → Root
 next_root root made tree free_list free_count = record {
   generation = root.generation + 1;
   tree = tree;
@@ -51,13 +51,13 @@ next_root root made tree free_list free_count = record {
 -- the root that is committed reaches none of them. The tree below the next root's page, in these
 -- and in what the disk's other pages hold, reaches these pages, each once, and has these entries;
 -- the list that the next root names, if it names one, fits that tree.
-pub record IsTurn (h : History) (root : Root) (live : List ℕ) (made : List Sheet) (next : Root)
+pub record IsTurn (h : History) (root : Root) (live : List ℕ) (made : List PageModel) (next : Root)
     (pages : List ℕ) (entries : List Entry) : Type 0 where
   pub ascending : LieBehind 0 made
-  pub inside : AllByRecursion (λ (sheet : Sheet). sheet.page < 1048576) made
-  pub sheets : AllByRecursion (IsSheet (root.generation + 1)) made
+  pub inside : AllByRecursion (λ (model : PageModel). model.page < 1048576) made
+  pub models : AllByRecursion (IsPageModel (root.generation + 1)) made
   pub free : KeepsWord h → (parts : List Part)
-      → HasList (sheet_at (reads (now h)) root) root live parts
-      → AllByRecursion (λ (sheet : Sheet). times sheet.page (reached_by live parts) ≡ 0) made
+      → HasList (model_at (reads (now h)) root) root live parts
+      → AllByRecursion (λ (model : PageModel). times model.page (reached_by live parts) ≡ 0) made
   pub holds : KeepsWord h
-      → HoldsMap (λ n. made_or made n (sheet_at (reads (now h)) next n)) next pages entries
+      → HoldsMap (λ n. made_or made n (model_at (reads (now h)) next n)) next pages entries

@@ -7,8 +7,8 @@ use Rattle.std.specs.Prelude.{MatchResult}
 use Rattle.page.specs.History.{History, KeepsWord, now, reads}
 use Rattle.page.specs.Crash.{ReadsOnly}
 use Rattle.page.specs.Content.{Content, leaf, branch, chain, free_list}
-use Rattle.page.specs.Format.{Sheet}
-use Rattle.page.specs.ImageView.{sheet_of}
+use Rattle.page.specs.Format.{PageModel}
+use Rattle.page.specs.ImageView.{model_of}
 use Rattle.page.specs.declared.page_fault.PageFault.{PageFault}
 use Rattle.page.specs.declared.page_image.PageImage.{PageImage}
 use Rattle.btree.specs.Keys.{Entry, times}
@@ -17,7 +17,7 @@ use Rattle.freelist.specs.Book.{Book, opened}
 use Rattle.freelist.specs.FreeList.{IsFreeList, Part, pages_of}
 use Rattle.freelist.specs.Sound.{IsSound}
 use Rattle.roots.specs.HeldFile.{HoldsNoFile, Reaches as ReachesFile}
-use Rattle.roots.specs.Image.{HasList, list_in, reached_by, sheet_at, store_of}
+use Rattle.roots.specs.Image.{HasList, list_in, reached_by, model_at, store_of}
 use Rattle.roots.specs.Store.{CountsFailed, IsCommitted, disk_history, durable_root, is_stopped}
 use Rattle.roots.specs.declared.opening.OpenFault.{OpenFault}
 use Rattle.roots.specs.declared.opening.OpenFault.TheVariants as faults
@@ -43,7 +43,7 @@ pub record Looks {X : Type 0} (result : Result X OpenFault) (old new : History) 
 
 -- the pages that a file with this root has, as its reads give them
 abbrev pub pages_in : History → Root → Pages
-pages_in h root = store_of (sheet_at (reads (now h)) root)
+pages_in h root = store_of (model_at (reads (now h)) root)
 
 abbrev pub pages_so_far : Reached → List ℕ
 pages_so_far reached = reached.pages.items
@@ -70,23 +70,23 @@ KeepsMarks old new result = OnOk result ((limit : ℕ) → IsMarked limit old �
 -- ---- a page
 
 -- Nothing of the store has changed, and this is the page that its disk holds, or it holds none.
-pub record ReadsSheet {D : Type 0} (history : D → History) (page : ℕ)
+pub record ReadsPageModel {D : Type 0} (history : D → History) (page : ℕ)
     (result : Result PageImage OpenFault) (old new : Store D) : Type 0 where
   pub root : durable_root new ≡ durable_root old
   pub stopped : is_stopped new ≡ is_stopped old
   pub committed : (live : List ℕ) (entries : List Entry) → IsCommitted history old live entries
       → IsCommitted history new live entries
-  pub sheet : let image = reads (now (disk_history history old)) in
-      let sheet = sheet_at image (durable_root old) page in
+  pub model : let image = reads (now (disk_history history old)) in
+      let model = model_at image (durable_root old) page in
       KeepsWord (disk_history history new) → MatchResult result
-      (λ image. sheet ≡ Ok (sheet_of image))
-      (λ fault. fault ≡ faults.Damaged → (found : Sheet) → sheet ≡ Ok found → ⊥)
+      (λ image. model ≡ Ok (model_of image))
+      (λ fault. fault ≡ faults.Damaged → (found : PageModel) → model ≡ Ok found → ⊥)
   pub noted : KeepsWord (disk_history history new) → CountsFailed history old new
 
 -- a page of a tree, and not of a value's chain or of a list
 abbrev pub is_of_tree : Content → Bool
 is_of_tree (leaf items) = true
-is_of_tree (branch arms) = true
+is_of_tree (branch pivots) = true
 is_of_tree (chain next bytes) = false
 is_of_tree (free_list next pages) = false
 
@@ -99,12 +99,12 @@ pub record IsNewBook (page_count : ℕ) (book : Book) : Type 0 where
   pub turn : book.turn ≡ []
   pub waiting : book.waiting ≡ []
   pub pins : book.pins ≡ []
-  pub full_takes : book.full_takes ≡ 0
+  pub failed_allocations : book.failed_allocations ≡ 0
 
 -- The first are the pages that the root reaches, its list's own too; the second are these alone.
-pub record HasReached (sheets : ℕ → Result Sheet PageFault) (root : Root)
+pub record HasReached (models : ℕ → Result PageModel PageFault) (root : Root)
     (found : Vec ℕ × Vec ℕ) : Type 0 where
-  pub reaches : ReachesFile sheets root found.0.items
+  pub reaches : ReachesFile models root found.0.items
   pub listed : found.1.items ≡ pages_of reaches.parts
 
 -- The pages that the root reaches were found, its list's own too. Damaged comes only where it has
@@ -113,9 +113,9 @@ abbrev pub FindsFile : {D : Type 0} → (D → History) → Result (Vec ℕ × V
     → Store D → Store D → Type 0
 FindsFile history result old new =
     KeepsWord (disk_history history new) → let root = durable_root old in
-    let sheets = sheet_at (reads (now (disk_history history old))) root in
-    MatchResult result (HasReached sheets root)
-    (λ fault. fault ≡ faults.Damaged → HoldsNoFile sheets root)
+    let models = model_at (reads (now (disk_history history old))) root in
+    MatchResult result (HasReached models root)
+    (λ fault. fault ≡ faults.Damaged → HoldsNoFile models root)
 
 -- Nothing of the store has changed. Where a tree is committed, the pages that the root reaches are
 -- in use, and the fault isn't one of the pages. The second of the result are the pages of the
@@ -129,20 +129,20 @@ pub record FindsFree {D : Type 0} (history : D → History) (limit : ℕ)
   pub noted : KeepsWord (disk_history history new) → CountsFailed history old new
   pub some : IfOk result (λ found. IsNewBook (max (max limit (durable_root old).pages) 1) found.0)
   pub listed : let root = durable_root old in
-      let sheets = sheet_at (reads (now (disk_history history old))) root in
+      let models = model_at (reads (now (disk_history history old))) root in
       KeepsWord (disk_history history new) → IfOk result (λ found. (parts : List Part)
-      → IsFreeList (list_in sheets) root.pages root.free_list root.free_count parts
+      → IsFreeList (list_in models) root.pages root.free_list root.free_count parts
       → found.1.items ≡ pages_of parts)
   -- damaged is only what holds no file
   pub judged : let root = durable_root old in
-      let sheets = sheet_at (reads (now (disk_history history old))) root in
+      let models = model_at (reads (now (disk_history history old))) root in
       KeepsWord (disk_history history new)
-      → IfErr result (λ fault. fault ≡ faults.Damaged → HoldsNoFile sheets root)
+      → IfErr result (λ fault. fault ≡ faults.Damaged → HoldsNoFile models root)
   pub book : KeepsWord (disk_history history new) → (live : List ℕ) (entries : List Entry)
       → IsCommitted history old live entries → let root = durable_root old in
       let image = reads (now (disk_history history old)) in
       MatchResult result (λ found. (parts : List Part)
-      → HasList (sheet_at image root) root live parts
+      → HasList (model_at image root) root live parts
       → (found.0 ≡ opened (reached_by live parts) (max limit root.pages) root.generation)
       × (found.1.items ≡ pages_of parts))
       (λ fault. fault ≢ faults.Damaged)

@@ -11,7 +11,7 @@ mod store;
 mod walk;
 
 pub use counting::PageCounts;
-pub use listing::list_sheets;
+pub use listing::list_models;
 pub use opening::OpenFault;
 pub use root::{MAX_PAGES, Root};
 pub use store::{CommitFault, Config, LEAST_LIMIT, Store, end_of};

@@ -9,7 +9,7 @@ ghost use Rattle.freelist.specs.declared.list_fault.ListFault.TheVariants as lis
 ghost use Rattle.page.specs.History.{KeepsWord};
 ghost use Rattle.roots.specs.HeldFile.{ChecksStore, FitsTree};
 ghost use Rattle.roots.specs.Image.{listed};
-ghost use Rattle.roots.specs.Listed.{HasFailed, IsClear, OnlyReads, list_sheets, listed_by, listed_fault, read_fault};
+ghost use Rattle.roots.specs.Listed.{HasFailed, IsClear, OnlyReads, list_models, listed_by, listed_fault, read_fault};
 ghost use Rattle.roots.specs.Store.{disk_history, durable_root};
 ghost use Rattle.roots.specs.Walk.{Looks};
 
@@ -33,15 +33,15 @@ fn list_page(content: PageContent) -> Option<ListPage>
 }
 
 /// The pages of a list, in its order, as a commit of this generation writes them.
-pub fn list_sheets(
+pub fn list_models(
     alloc: Global,
     list: &FreeList,
     generation: u64,
 ) -> Result<Vec<SharedPage>, AllocError>
     ensures { let parts = written list.now.pages.items list.now.named.items in
-        IfOk result (λ v. v.items ≡ list_sheets generation parts) }
+        IfOk result (λ v. v.items ≡ list_models generation parts) }
 {
-    let mut sheets = Vec::new(alloc);
+    let mut models = Vec::new(alloc);
     for at in 0..list.pages.len() {
         let part = list.part(alloc, at)?;
         let image = PageImage {
@@ -52,9 +52,9 @@ pub fn list_sheets(
                 pages: part.named,
             },
         };
-        sheets.push(SharedPage::new(alloc, image)?)?;
+        models.push(SharedPage::new(alloc, image)?)?;
     }
-    Ok(sheets)
+    Ok(models)
 }
 
 /// Why a page of a list wasn't read.

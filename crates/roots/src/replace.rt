@@ -2,7 +2,7 @@
 ghost use Rattle.std.specs.Prelude.{◌≡◌, ◌≢◌, ◌⊎◌, ◌<◌, ℕ, OnOk, OnErr};
 ghost use Rattle.page.specs.History.{KeepsWord, now, reads, IsImage};
 ghost use Rattle.page.specs.Calls.{MakesCalls};
-ghost use Rattle.page.specs.Crash.{GoesOn, LeavesOnly, AreDurable, put};
+ghost use Rattle.page.specs.Crash.{ExtendsHistory, LeavesOnly, AreDurable, put};
 ghost use Rattle.roots.specs.Replace.{IsOldOrPut};
 
 use page::{DeviceFault, Disk};
@@ -13,7 +13,7 @@ pub(crate) fn replace<D: Disk>(
     sector: u64,
     bytes: &[u8; 512],
 ) -> Result<(), DeviceFault>
-    ensures on { GoesOn (D.history disk.old) (D.history disk.new) }
+    ensures extends { ExtendsHistory (D.history disk.old) (D.history disk.new) }
     ensures calls { MakesCalls 3 result (D.history disk.old) (D.history disk.new) }
 
     // Until the first sync a crash leaves what it could leave before; then what reads gave, with the sector or without.

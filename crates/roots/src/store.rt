@@ -3,17 +3,17 @@ ghost use Rattle.std.specs.Prelude.{◌≡◌, ◌≢◌, ◌+◌, ◌*◌, ◌<
 ghost use Rattle.std.specs.List.{AllByRecursion};
 ghost use Rattle.page.specs.History.{KeepsWord, now, reads};
 ghost use Rattle.page.specs.Calls.{MakesCalls};
-ghost use Rattle.page.specs.Crash.{GoesOn, LeavesOnly, IsImageOutside};
-ghost use Rattle.page.specs.Format.{Sheet, page_bytes};
+ghost use Rattle.page.specs.Crash.{ExtendsHistory, LeavesOnly, IsImageOutside};
+ghost use Rattle.page.specs.Format.{PageModel, page_bytes};
 ghost use Rattle.page.specs.Page.{IsSectorOf, page_at};
 ghost use Rattle.roots.specs.Counting.{CountsPages};
 ghost use Rattle.roots.specs.Commit.{CommitsRoot, LeavesPages, MovesDisk, MovesMaps};
 ghost use Rattle.roots.specs.HeldFile.{HoldsNoFile};
-ghost use Rattle.roots.specs.Image.{IsOnPages, sheet_at};
-ghost use Rattle.roots.specs.Opening.{IsOpened, IsRefused};
+ghost use Rattle.roots.specs.Image.{IsOnPages, model_at};
+ghost use Rattle.roots.specs.Opening.{IsStoreOpened, IsStoreRefused};
 ghost use Rattle.roots.specs.Store.{CountsFault, disk_history, durable_root, failed_reads, is_stopped, limit_in};
 ghost use Rattle.roots.specs.Listed.{OnlyReads};
-ghost use Rattle.roots.specs.Walk.{FindsFile, FindsFree, Looks, ReadsSheet};
+ghost use Rattle.roots.specs.Walk.{FindsFile, FindsFree, Looks, ReadsPageModel};
 ghost use Rattle.roots.specs.Trusting.{trusting_store};
 ghost use Rattle.roots.specs.Turn.{AreWritten, LieBehind, end_behind, numbers_of};
 
@@ -22,7 +22,7 @@ use crate::listing::{checked_list, read_fault, read_named};
 use crate::opening::{OpenFault, read_root};
 use crate::replace::replace;
 use crate::root::{MAX_PAGES, Root};
-use crate::walk::{is_of_tree, reached_pages, read_sheet};
+use crate::walk::{is_of_tree, reached_pages, read_model};
 use freelist::FreePages;
 use page::{DeviceFault, Disk, PageImage, SharedPage, write_page};
 use std::alloc::Global;
@@ -88,7 +88,7 @@ fn greater(one: u32, other: u32) -> u32
 
 /// The number of pages of a file that ends behind these, with page 0.
 pub fn end_of(made: &[SharedPage]) -> u32
-    ensures { AllByRecursion (λ (sheet : Sheet). sheet.page < 1048576) made.now
+    ensures { AllByRecursion (λ (model : PageModel). model.page < 1048576) made.now
         → result ≡ end_behind 1 made.now }
 {
     match made.last() {
@@ -103,7 +103,7 @@ fn write_shared<D: Disk>(
     shared: &SharedPage,
     bytes: &mut [u8; 4096],
 ) -> Result<(), DeviceFault>
-    ensures on { GoesOn (D.history disk.old) (D.history disk.new) }
+    ensures extends { ExtendsHistory (D.history disk.old) (D.history disk.new) }
     ensures calls { MakesCalls 8 result (D.history disk.old) (D.history disk.new) }
     ensures any_moment { let before = now (D.history disk.old) in
         LeavesOnly (D.history disk.old) (D.history disk.new)
@@ -123,7 +123,7 @@ fn write_shared<D: Disk>(
 
 /// Writes pages in their order.
 fn write_made<D: Disk>(disk: &mut D, made: &[SharedPage]) -> Result<(), DeviceFault>
-    ensures on { GoesOn (D.history disk.old) (D.history disk.new) }
+    ensures extends { ExtendsHistory (D.history disk.old) (D.history disk.new) }
     ensures calls { MakesCalls (8 * length made.now) result
         (D.history disk.old) (D.history disk.new) }
 
@@ -148,7 +148,7 @@ fn write_made<D: Disk>(disk: &mut D, made: &[SharedPage]) -> Result<(), DeviceFa
 
 /// Writes pages, and behind them the root that names their tree.
 fn write_commit<D: Disk>(disk: &mut D, made: &[SharedPage], root: Root) -> Result<(), DeviceFault>
-    ensures on { GoesOn (D.history disk.old) (D.history disk.new) }
+    ensures extends { ExtendsHistory (D.history disk.old) (D.history disk.new) }
     ensures calls { MakesCalls (8 * length made.now + 3) result
         (D.history disk.old) (D.history disk.new) }
     ensures moves { MovesDisk made.now root result (D.history disk.old) (D.history disk.new) }
@@ -188,8 +188,8 @@ impl<D: Disk> Store<D> {
     /// Opens a disk that a crash may have left. It reads the two roots, writes nothing, and syncs before it
     /// answers. An `Err` hands the disk back.
     pub fn open(mut disk: D) -> Result<Store<D>, (D, OpenFault)>
-        ensures opened { IfOk result (IsOpened D.history disk) }
-        ensures refused { IfErr result (λ e. IsRefused D.history disk e.0 e.1) }
+        ensures opened { IfOk result (IsStoreOpened D.history disk) }
+        ensures refused { IfErr result (λ e. IsStoreRefused D.history disk e.0 e.1) }
     {
         let root = match read_root(&mut disk) {
             Ok(root) => root,
@@ -253,9 +253,9 @@ impl<D: Disk> Store<D> {
     pub fn read(&mut self, alloc: Global, page: u32) -> Result<PageImage, OpenFault>
         ensures looks { Looks result (disk_history D.history self.old)
             (disk_history D.history self.new) }
-        ensures reads { ReadsSheet D.history page result self.old self.new }
+        ensures reads { ReadsPageModel D.history page result self.old self.new }
     {
-        match read_sheet(alloc, &mut self.disk, self.root, page) {
+        match read_model(alloc, &mut self.disk, self.root, page) {
             Ok(image) => Ok(image),
             Err(fault) => {
                 self.failed_reads = failed_behind(fault, self.failed_reads);
@@ -291,9 +291,9 @@ impl<D: Disk> Store<D> {
             (disk_history D.history self.new) }
         ensures same { OnlyReads D.history self.old self.new }
         ensures judged { let root = durable_root self.old in
-            let sheets = sheet_at (reads (now (disk_history D.history self.old))) root in
+            let models = model_at (reads (now (disk_history D.history self.old))) root in
             KeepsWord (disk_history D.history self.new)
-            → IfErr result (λ fault. fault ≡ OpenFault.Damaged → HoldsNoFile sheets root) }
+            → IfErr result (λ fault. fault ≡ OpenFault.Damaged → HoldsNoFile models root) }
     {
         let tree = self.root.tree;
         if tree == 0 {

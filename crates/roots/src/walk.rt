@@ -2,16 +2,16 @@
 ghost use Rattle.std.specs.Prelude.{◌≡◌, ◌≢◌, ◌<◌, ◌≤◌, ◌+◌, ◌-◌, ◌++◌, ◌∷◌, [], ℕ, zero, List, Ok, length, map, IfOk, IfErr, OnOk, MatchResult};
 ghost use Rattle.std.specs.Option.{option_map};
 ghost use Rattle.page.specs.History.{KeepsWord, now, reads};
-ghost use Rattle.page.specs.Format.{Sheet};
+ghost use Rattle.page.specs.Format.{PageModel};
 ghost use Rattle.page.specs.CellView.{place_of as place_in};
 ghost use Rattle.page.specs.Content.{IsLeaf, IsPlace};
-ghost use Rattle.page.specs.ImageView.{sheet_of};
+ghost use Rattle.page.specs.ImageView.{model_of};
 ghost use Rattle.btree.specs.Calls.{IsPart};
 ghost use Rattle.btree.specs.Keys.{Each, Entry, IsBetween, Pair};
 ghost use Rattle.btree.specs.Tree.{Body, HasChain, HasLinks, Shows, item_of, next_of, pair_keys, place_of, pages_of};
 ghost use Rattle.btree.specs.Reach.{AreOnce};
 ghost use Rattle.roots.specs.Found.{HasFoundChain, HasFoundPairs, HasFoundPart, HasFoundValue, ReachesDepth};
-ghost use Rattle.roots.specs.Image.{HoldsTree, sheet_at};
+ghost use Rattle.roots.specs.Image.{HoldsTree, model_at};
 ghost use Rattle.roots.specs.Walk.{is_of_tree, CanReach, KeepsMarks, Looks, Reaches, pages_in, pages_so_far};
 
 use crate::opening::OpenFault;
@@ -53,17 +53,17 @@ impl Reached {
 }
 
 /// The page of this number in a file with this root.
-pub(crate) fn read_sheet<D: Disk>(
+pub(crate) fn read_model<D: Disk>(
     alloc: Global,
     disk: &mut D,
     root: Root,
     page: u32,
 ) -> Result<PageImage, OpenFault>
     ensures looks { Looks result (D.history disk.old) (D.history disk.new) }
-    ensures sheet { let sheet = sheet_at (reads (now (D.history disk.old))) root page in
+    ensures model { let model = model_at (reads (now (D.history disk.old))) root page in
         KeepsWord (D.history disk.new) → MatchResult result
-        (λ image. sheet ≡ Ok (sheet_of image))
-        (λ fault. fault ≡ OpenFault.Damaged → (found : Sheet) → sheet ≡ Ok found → ⊥) }
+        (λ image. model ≡ Ok (model_of image))
+        (λ fault. fault ≡ OpenFault.Damaged → (found : PageModel) → model ≡ Ok found → ⊥) }
 {
     if page == 0 || page >= root.pages {
         return Err(OpenFault::Damaged);
@@ -79,7 +79,7 @@ pub(crate) fn read_sheet<D: Disk>(
 
 /// Whether a page is one of a tree, and not of a value's chain or of a list.
 pub(crate) fn is_of_tree(image: &PageImage) -> bool
-    ensures { result ≡ is_of_tree (sheet_of image.now).content }
+    ensures { result ≡ is_of_tree (model_of image.now).content }
 {
     matches!(image.content, PageContent::Leaf(_) | PageContent::Branch(_))
 }
@@ -107,7 +107,7 @@ fn walk_chain<D: Disk>(
     let mut left = len as usize;
     while left > 0 {
         reached.note(page)?;
-        let image = read_sheet(alloc, disk, root, page)?;
+        let image = read_model(alloc, disk, root, page)?;
         let PageContent::Chain { next, bytes } = &image.content else {
             return Err(OpenFault::Damaged);
         };
@@ -211,7 +211,7 @@ fn walk_below<D: Disk>(
         return Err(OpenFault::Damaged);
     }
     reached.note(page)?;
-    let image = read_sheet(alloc, disk, root, page)?;
+    let image = read_model(alloc, disk, root, page)?;
     let branch = match &image.content {
         PageContent::Leaf(leaf) => {
             walk_leaf(alloc, disk, root, leaf, low, high, reached)?;
@@ -244,14 +244,14 @@ pub(crate) fn reached_pages<D: Disk>(
     root: Root,
 ) -> Result<Vec<u32>, OpenFault>
     ensures looks { Looks result (D.history disk.old) (D.history disk.new) }
-    ensures pages { let sheets = sheet_at (reads (now (D.history disk.old))) root in
+    ensures pages { let models = model_at (reads (now (D.history disk.old))) root in
         KeepsWord (D.history disk.new) → (pages : List ℕ) (entries : List Entry)
-        → HoldsTree sheets root pages entries
+        → HoldsTree models root pages entries
         → MatchResult result (λ v. v.items ≡ pages) (λ fault. fault ≢ OpenFault.Damaged) }
     ensures once { IfOk result (λ v. AreOnce v.items) }
-    ensures found { let sheets = sheet_at (reads (now (D.history disk.old))) root in
+    ensures found { let models = model_at (reads (now (D.history disk.old))) root in
         KeepsWord (D.history disk.new)
-        → IfOk result (λ v. (entries : List Entry) × HoldsTree sheets root v.items entries) }
+        → IfOk result (λ v. (entries : List Entry) × HoldsTree models root v.items entries) }
 {
     if root.tree == 0 {
         return Ok(Vec::new(alloc));

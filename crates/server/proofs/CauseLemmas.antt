@@ -7,7 +7,7 @@ use Rattle.bson.specs.declared.fault.BsonFault.{BsonFault}
 use Rattle.path.specs.declared.refusal.Refusal.{Refusal}
 use Rattle.path.specs.declared.refusal.Refusal.TheVariants as refusals
 use Rattle.page.specs.History.{History, KeepsWord}
-use Rattle.page.specs.Crash.{GoesOn}
+use Rattle.page.specs.Crash.{ExtendsHistory}
 use Rattle.roots.specs.declared.store.CommitFault.{CommitFault}
 use Rattle.collections.specs.Calls.{HasWriteCause, IsTooLarge}
 use Rattle.collections.specs.State.{State}
@@ -15,10 +15,10 @@ use Rattle.collections.specs.View as views
 use Rattle.database_model.specs.World.{World}
 use Rattle.database_model.specs.Step.{step, Answers}
 use Rattle.engine.specs.Committing as engines
-use Rattle.engine.specs.Committing.{Commits}
+use Rattle.engine.specs.Committing.{CommitsTurn}
 use Rattle.engine.specs.Continuing.{Continues}
 use Rattle.engine.specs.Writing.{FileCause}
-use Rattle.engine.specs.Durable.{disk_history, file_of, full_takes_of, generation, has_changes, IsRunning, IsSound, KeepsChanges}
+use Rattle.engine.specs.Durable.{disk_history, file_of, failed_allocations_of, generation, has_changes, IsRunning, IsSound, KeepsChanges}
 use Rattle.engine.specs.declared.engine.Engine.{Engine}
 use Rattle.engine.specs.View.{world, turn_start}
 use Rattle.engine.proofs.Continuing.{continues_still}
@@ -72,7 +72,7 @@ module _ (a b c d : Moment) (early : Follows a b) (within : Follows b c) (late :
       let last = late.takes k in
       elim found [
         | inl more ↦ inl (omega (arith, first, more, last))
-        | inr most ↦ elim (cases_lt c.full_takes d.full_takes) [
+        | inr most ↦ elim (cases_lt c.failed_allocations d.failed_allocations) [
           | inl more ↦ inl (omega (arith, first, within.takes (late.word k), more))
           | inr same ↦ inr (omega (arith, most, last, same))
         ]
@@ -140,9 +140,9 @@ module _ (beside other : World → Refusal → Type 0) (weaker : (planned : Worl
       let one = nothing h.0 r (answers_weaker w _ _ h.0 r h.1) in
       (one.0, changed_none cs h.0 rs new h.2 one.1)
 
-  pub serves_weaker : (word before : Type 0) → (word → before) → (same rests : Type 0) (cs : List Call) (old new : World) (ok : Bool)
-      (given now : List (ℕ × List ℕ)) → Serves before beside same rests cs old new ok given now → Serves word other same rests cs old new ok given now
-  serves_weaker word before kept same rests cs old new ok given now s = record {
+  pub serves_weaker : (word before : Type 0) → (word → before) → (same clean : Type 0) (cs : List Call) (old new : World) (ok : Bool)
+      (given now : List (ℕ × List ℕ)) → Serves before beside same clean cs old new ok given now → Serves word other same clean cs old new ok given now
+  serves_weaker word before kept same clean cs old new ok given now s = record {
     replies = s.replies;
     one_each = s.one_each;
     runs = λ k. runs_weaker cs old s.replies new (s.runs (kept k));
@@ -163,36 +163,37 @@ one_more false old new is = (omega (arith, is), omega (arith, is))
 module _ {D : Type 0} (history : D → History) (old new : Engine D) where
   -- a command, which commits nothing
   pub goes_follows : Continues history old new → Follows (engine_moment history old) (engine_moment history new)
-  goes_follows goes = record {
-    word = goes.reads.on.kept;
-    clock = goes.reads.on.clock;
-    failures = goes.reads.on.failures;
-    takes = goes.takes;
-    generation = omega (arith, goes.version);
+  goes_follows continues = record {
+    word = continues.reads.extends.kept;
+    clock = continues.reads.extends.clock;
+    failures = continues.reads.extends.failures;
+    takes = continues.takes;
+    generation = omega (arith, continues.version);
   }
 
   -- the end of a turn, which may find no page
-  pub commit_follows : (result : Result (Unit {0}) CommitFault) → Commits history result old new
+  pub commit_follows : (result : Result (Unit {0}) CommitFault) → CommitsTurn history result old new
       → FollowsInTurn (engine_moment history old) (engine_moment history new)
   commit_follows result commits =
       let once = one_more _ (generation old) (generation new) commits.version in (
         record {
-          word = commits.on.kept;
-          clock = commits.on.clock;
-          failures = commits.on.failures;
+          word = commits.extends.kept;
+          clock = commits.extends.clock;
+          failures = commits.extends.failures;
           takes = λ k. commits.takes;
           generation = once.0;
         },
         once.1,
       )
 
-  pub undo_follows : GoesOn (disk_history history old) (disk_history history new) → full_takes_of history new ≡ full_takes_of history old
+  pub undo_follows : ExtendsHistory (disk_history history old) (disk_history history new) → failed_allocations_of history new ≡ failed_allocations_of history
+      old
       → generation new ≡ generation old
       → Follows (engine_moment history old) (engine_moment history new)
-  undo_follows on takes same = record {
-    word = on.kept;
-    clock = on.clock;
-    failures = on.failures;
+  undo_follows extends takes same = record {
+    word = extends.kept;
+    clock = extends.clock;
+    failures = extends.failures;
     takes = λ k. omega (arith, takes);
     generation = omega (arith, same);
   }
@@ -227,9 +228,9 @@ module _ {D : Type 0} (history : D → History) (old new : Engine D) where
 pub turn_follows : {D : Type 0} (history : D → History) (old mid new : Engine D) → Continues history old mid
     → FollowsInTurn (engine_moment history mid) (engine_moment history new)
     → FollowsInTurn (engine_moment history old) (engine_moment history new)
-turn_follows history old mid new goes end = (
-  follows_further (engine_moment history old) (engine_moment history mid) (engine_moment history new) (goes_follows history old mid goes) end.0,
-  omega (arith, goes.version, end.1),
+turn_follows history old mid new continues end = (
+  follows_further (engine_moment history old) (engine_moment history mid) (engine_moment history new) (goes_follows history old mid continues) end.0,
+  omega (arith, continues.version, end.1),
 )
 
 -- Why a turn's commit finds no room, by the whole turn.
@@ -237,28 +238,28 @@ pub room_ran_out : {D : Type 0} (history : D → History) (old mid new : Engine 
     → KeepsWord (disk_history history mid)
     → (generation mid ≡ 2 ^ 64 - 1) ⊎ engines.FoundNoPage history mid new
     → ((engine_moment history old).generation ≡ 2 ^ 64 - 1) ⊎ FoundNoPage (engine_moment history old) (engine_moment history new)
-room_ran_out history old mid new goes k (inl most) = inl (sym goes.version ∙ most)
-room_ran_out history old mid new goes k (inr (inl more)) = inr (inl (omega (arith, more, goes.takes k)))
-room_ran_out history old mid new goes k (inr (inr most)) = inr (inr (omega (arith, most)))
+room_ran_out history old mid new continues k (inl most) = inl (sym continues.version ∙ most)
+room_ran_out history old mid new continues k (inr (inl more)) = inr (inl (omega (arith, more, continues.takes k)))
+room_ran_out history old mid new continues k (inr (inr most)) = inr (inr (omega (arith, most)))
 
 -- what the commands of a turn changed is committed: P is what holds where they changed nothing
 pub commits_once : {D : Type 0} (history : D → History) (old mid new : Engine D) (P : Type 0) (changed : Bool) → has_changes mid ≡ changed
     → (has_changes mid ≡ false → P) → Continues history old mid → generation new ≡ (if has_changes mid then generation mid + 1 else generation mid)
     → P ⊎ (generation new ≡ generation old + 1)
-commits_once history old mid new P true moved quiet goes version =
-    inr (version ∙ ap (λ (b : Bool). if b then generation mid + 1 else generation mid) moved ∙ ap (λ (n : ℕ). n + 1) goes.version)
-commits_once history old mid new P false rests quiet goes version = inl (quiet rests)
+commits_once history old mid new P true moved quiet continues version =
+    inr (version ∙ ap (λ (b : Bool). if b then generation mid + 1 else generation mid) moved ∙ ap (λ (n : ℕ). n + 1) continues.version)
+commits_once history old mid new P false clean quiet continues version = inl (quiet clean)
 
 -- what has no changes had none before
 pub rested_before : (old new : Bool) → (old ≡ true → new ≡ true) → new ≡ false → old ≡ false
-rested_before true new keeps rests = absurd (let is = keeps refl in cc)
-rested_before false new keeps rests = refl
+rested_before true new keeps clean = absurd (let is = keeps refl in cc)
+rested_before false new keeps clean = refl
 
 -- so a command that leaves none left the collections as they were
 pub rested_still : {D : Type 0} (history : D → History) (old new : Engine D) → IsSound history old → IsSound history new → turn_start new ≡ turn_start old
     → KeepsChanges old new → has_changes new ≡ false → (world new).collections ≡ (world old).collections
-rested_still history old new before after start keeps rests =
-    sym (after.quiet rests) ∙ start ∙ before.quiet (rested_before (has_changes old) (has_changes new) keeps rests)
+rested_still history old new before after start keeps clean =
+    sym (after.quiet clean) ∙ start ∙ before.quiet (rested_before (has_changes old) (has_changes new) keeps clean)
 
 -- the same file is on the same disk
 disk_same : {D : Type 0} (history : D → History) (mid new : Engine D) → file_of new ≡ file_of mid → disk_history history new ≡ disk_history history mid
@@ -266,26 +267,26 @@ disk_same {D} history mid new = ap (λ (file : State D). views.disk_history hist
 
 -- a turn that changed nothing ends without a commit
 pub quiet_commit : {D : Type 0} (history : D → History) (mid new : Engine D) (result : Result (Unit {0}) CommitFault) → has_changes mid ≡ false
-    → Commits history result mid new → Continues history mid new
-quiet_commit {D = D} history mid new result rests commits =
-    let quiet = commits.quiet rests in
-    let done = subst (λ (r : Result (Unit {0}) CommitFault). Commits history r mid new) quiet.0 commits in
+    → CommitsTurn history result mid new → Continues history mid new
+quiet_commit {D = D} history mid new result clean commits =
+    let quiet = commits.quiet clean in
+    let done = subst (λ (r : Result (Unit {0}) CommitFault). CommitsTurn history r mid new) quiet.0 commits in
     continues_still history mid new (disk_same history mid new quiet.1) (done.running (λ e. absurd cc))
-    (done.version ∙ ap (λ (b : Bool). if b then generation mid + 1 else generation mid) rests) (done.found (λ e. absurd cc))
+    (done.version ∙ ap (λ (b : Bool). if b then generation mid + 1 else generation mid) clean) (done.found (λ e. absurd cc))
     (ap (λ (file : State D). (views.pages_of history file).failed_reads) quiet.1)
 
 -- a turn that took no message ends without a call of the disk
 pub idle_commit : {D : Type 0} (history : D → History) (old mid new : Engine D) (result : Result (Unit {0}) CommitFault) → has_changes old ≡ false → mid ≡ old
-    → Commits history result mid new
+    → CommitsTurn history result mid new
     → disk_history history new ≡ disk_history history old
-idle_commit history old mid new result rests same commits =
-    disk_same history mid new (commits.quiet (ap has_changes same ∙ rests)).1 ∙ ap (disk_history history) same
+idle_commit history old mid new result clean same commits =
+    disk_same history mid new (commits.quiet (ap has_changes same ∙ clean)).1 ∙ ap (disk_history history) same
 
 -- the messages of a turn, by the causes of the whole turn
 pub cause_over : {D : Type 0} (history : D → History) (old mid new : Engine D) → Continues history old mid
     → Follows (engine_moment history mid) (engine_moment history new) → (planned : World) (r : Refusal)
     → IsCaused (engine_moment history old) (engine_moment history mid) planned r
     → IsCaused (engine_moment history old) (engine_moment history new) planned r
-cause_over history old mid new goes after =
+cause_over history old mid new continues after =
     caused_wider (engine_moment history old) (engine_moment history old) (engine_moment history mid) (engine_moment history new)
-    (follows_itself (engine_moment history old)) (goes_follows history old mid goes) after
+    (follows_itself (engine_moment history old)) (goes_follows history old mid continues) after

@@ -37,9 +37,9 @@ is_called old new (Err e) n r h none = absurd h
 is_called old new (Ok (Some x)) n r h none = absurd cc
 
 -- no message was answered
-pub none_served : (word : Type 0) (beside : World → Refusal → Type 0) (same rests : Type 0) (w : World) (given : List (ℕ × List ℕ)) → same
-    → Serves word beside same rests [] w w true given given
-none_served word beside same rests w given stays = record {
+pub none_served : (word : Type 0) (beside : World → Refusal → Type 0) (same clean : Type 0) (w : World) (given : List (ℕ × List ℕ)) → same
+    → Serves word beside same clean [] w w true given given
+none_served word beside same clean w given stays = record {
   replies = [];
   one_each = refl;
   runs = λ k. refl;
@@ -51,11 +51,11 @@ none_served word beside same rests w given stays = record {
   left_all = λ k r. tt;
 }
 
-module _ (word : Type 0) (beside : World → Refusal → Type 0) (same rests : Type 0) (old new : Connection) where
+module _ (word : Type 0) (beside : World → Refusal → Type 0) (same clean : Type 0) (old new : Connection) where
   pub nothing_served : (front : Front) (t : Taken) (w : World) (given : List (ℕ × List ℕ)) → same → IsTaken old front t new
-      → ((n : ℕ) (r : Request) → t ≡ takes.Call n r → ⊥) → Serves word beside same rests (call_at old front) w w true given given
-  nothing_served (Ok None) t w given stays h none = none_served word beside same rests w given stays
-  nothing_served (Err e) t w given stays h none = none_served word beside same rests w given stays
+      → ((n : ℕ) (r : Request) → t ≡ takes.Call n r → ⊥) → Serves word beside same clean (call_at old front) w w true given given
+  nothing_served (Ok None) t w given stays h none = none_served word beside same clean w given stays
+  nothing_served (Err e) t w given stays h none = none_served word beside same clean w given stays
   nothing_served (Ok (Some x)) takes.Nothing w given stays h none = absurd h
   nothing_served (Ok (Some x)) (takes.Call n r) w given stays h none = absurd (none n r refl)
 
@@ -64,9 +64,9 @@ module _ (word : Type 0) (beside : World → Refusal → Type 0) (same rests : T
       → (word → IsAnswer beside w old.id r w' reply)
       → (word → (read : Result Pairs BsonFault) → Gives bson_faults.Memory (λ d. d) r.body read → WroteNothing w read w' → same)
       → ((read : Result Pairs BsonFault) → Gives bson_faults.Memory (λ d. d) r.body read → AnswersOnAnyDisk w old.id read w' reply)
-      → (rests → w'.collections ≡ w.collections)
+      → (clean → w'.collections ≡ w.collections)
       → (ok ≡ true → now ≡ given ++ frame_unless r.more_to_come old.id n r.request_id reply)
-      → Serves word beside same rests (call_at old front) w w' ok given now
+      → Serves word beside same clean (call_at old front) w w' ok given now
   one_served (Ok None) n r w w' reply ok given now h a q any still f = absurd h
   one_served (Err e) n r w w' reply ok given now h a q any still f = absurd h
   one_served (Ok (Some x)) n r w w' reply ok given now h a q any still f = record {

@@ -122,10 +122,10 @@ both true q e = (refl, e)
 both false q e = absurd cc
 
 pub serves_on : (word : Type 0) (beside : World → Refusal → Type 0) (first second same : Type 0) → (first → second → same)
-    → (earlier rests : Type 0) → (rests → earlier)
+    → (earlier clean : Type 0) → (clean → earlier)
     → (cs ds : List Call) (a b c : World) (p q : Bool) (f g h : List (ℕ × List ℕ)) → Serves word beside first earlier cs a b p f g
-    → Serves word beside second rests ds b c q g h → Serves word beside same rests (cs ++ ds) a c (p && q) f h
-serves_on word beside first second same join earlier rests before cs ds a b c p q f g h s t = record {
+    → Serves word beside second clean ds b c q g h → Serves word beside same clean (cs ++ ds) a c (p && q) f h
+serves_on word beside first second same join earlier clean before cs ds a b c p q f g h s t = record {
   replies = s.replies ++ t.replies;
   one_each = omega (arith, length-append s.replies t.replies, length-append cs ds, s.one_each, t.one_each);
   runs = λ k. runs_on beside cs ds a b c s.replies t.replies (s.runs k) (t.runs k);

@@ -30,7 +30,7 @@ lines_next limit rest batch next =
 -- The lines so far, and those of what is still to come, are the lines of all.
 pub record IsListed (now : List Collection) (all : List Pairs) (lines : List (List ℕ)) (walk : Walk) : Type 0 where
   pub rest : List Pairs
-  pub goes : IsWalk now walk rest
+  pub continues : IsWalk now walk rest
   pub so : lines ++ map dump_line rest ≡ map dump_line all
 
 module _ {D : Type 0} (history : D → History) where
@@ -38,7 +38,7 @@ module _ {D : Type 0} (history : D → History) where
   cause_before : (IsMissing : Type 0) (a b c : Engine D) → OnlyReads history a b → OnlyReads history b c → KeepsWord (disk_history history c) → (e : CheckFault)
       → HasFaultCause history ⊥ b c e → HasFaultCause history IsMissing a c e
   cause_before IsMissing a b c first later k faults.Device failed =
-      failed_from history (file_of a) (file_of b) (file_of c) first.goes (word_before history (file_of b) (file_of c) later.goes k) failed
+      failed_from history (file_of a) (file_of b) (file_of c) first.continues (word_before history (file_of b) (file_of c) later.continues k) failed
   cause_before IsMissing a b c first later k faults.Memory cause = tt
   cause_before IsMissing a b c first later k faults.Damaged cause = absurd cause
   cause_before IsMissing a b c first later k faults.NamespaceNotFound cause = absurd cause
@@ -53,7 +53,7 @@ module _ {D : Type 0} (history : D → History) where
           → IsListed (world old).collections all lines walk
 
     pub listed_none : IsSound history old → HasListed [] begun old
-    listed_none h = record { reads = reads_none history old h; there = λ k all w. record { rest = all; goes = w; so = refl } }
+    listed_none h = record { reads = reads_none history old h; there = λ k all w. record { rest = all; continues = w; so = refl } }
 
     -- want of memory promises nothing
     pub list_memory : (new : Engine D) → OnlyReads history old new → ListsRest history begun (Err faults.Memory) old new
@@ -66,12 +66,12 @@ module _ {D : Type 0} (history : D → History) where
         reads = reads_on history old mid new come.reads step.reads;
         there = λ k all w.
             let same : (world mid).collections ≡ (world old).collections = now_same history old mid come.reads in
-            let at = come.there (word_before history (file_of mid) (file_of new) step.reads.goes k) all w in
-            let next = step.answers k at.rest (subst (λ (cs : List Collection). IsWalk cs walk at.rest) (sym same) at.goes) in
+            let at = come.there (word_before history (file_of mid) (file_of new) step.reads.continues k) all w in
+            let next = step.answers k at.rest (subst (λ (cs : List Collection). IsWalk cs walk at.rest) (sym same) at.continues) in
             let left : List Pairs = drop (length batch.items) at.rest in
             record {
               rest = left;
-              goes = subst (λ (cs : List Collection). IsWalk cs after left) same next.1;
+              continues = subst (λ (cs : List Collection). IsWalk cs after left) same next.1;
               so = append_assoc lines (map dump_line batch.items) (map dump_line left)
                   ∙ ap (λ (xs : List (List ℕ)). lines ++ xs) (sym (lines_next 64 at.rest batch.items next.0)) ∙ at.so;
             };
@@ -85,8 +85,8 @@ module _ {D : Type 0} (history : D → History) where
         reads = reads_on history old mid new come.reads step.reads;
         answers = λ k rest w.
             let same : (world mid).collections ≡ (world old).collections = now_same history old mid come.reads in
-            let at = come.there (word_before history (file_of mid) (file_of new) step.reads.goes k) rest w in
-            let next = step.answers k at.rest (subst (λ (cs : List Collection). IsWalk cs walk at.rest) (sym same) at.goes) in
+            let at = come.there (word_before history (file_of mid) (file_of new) step.reads.continues k) rest w in
+            let next = step.answers k at.rest (subst (λ (cs : List Collection). IsWalk cs walk at.rest) (sym same) at.continues) in
             is ∙ sym (append-nil lines) ∙ ap (λ (ds : List Pairs). lines ++ map dump_line ds) (sym (next.0.none none)) ∙ at.so;
       }
 
@@ -96,9 +96,9 @@ module _ {D : Type 0} (history : D → History) where
         reads = reads_on history old mid new come.reads step.reads;
         answers = λ k rest w.
             let same : (world mid).collections ≡ (world old).collections = now_same history old mid come.reads in
-            let at = come.there (word_before history (file_of mid) (file_of new) step.reads.goes k) rest w in
+            let at = come.there (word_before history (file_of mid) (file_of new) step.reads.continues k) rest w in
             cause_before ⊥ old mid new come.reads step.reads k e
-            (step.answers k at.rest (subst (λ (cs : List Collection). IsWalk cs walk at.rest) (sym same) at.goes));
+            (step.answers k at.rest (subst (λ (cs : List Collection). IsWalk cs walk at.rest) (sym same) at.continues));
       }
 
   -- ---- a dump
@@ -129,10 +129,12 @@ module _ {D : Type 0} (history : D → History) where
             → MatchResult x (λ lines. dump_of (world old).collections name ≡ Some (lines_in lines))
             (HasFaultCause history (dump_of (world old).collections name ≡ None) old new)
         answer (Ok all) k answers =
-            let whole : WalksThrough (world old).collections name walk = begins.answers (word_before history (file_of mid) (file_of new) lists.reads.goes k) in
+            let whole : WalksThrough (world old).collections name walk = begins.answers
+            (word_before history (file_of mid) (file_of new) lists.reads.continues k) in
             let listed : lines_in all ≡ map dump_line whole.collection.documents = answers k whole.collection.documents (walk_on whole) in
             ap (λ (o : Option Collection). option_map (λ (c : Collection). map dump_line c.documents) o) whole.found ∙ ap Some (sym listed)
         answer (Err e) k answers =
-            let whole : WalksThrough (world old).collections name walk = begins.answers (word_before history (file_of mid) (file_of new) lists.reads.goes k) in
+            let whole : WalksThrough (world old).collections name walk = begins.answers
+            (word_before history (file_of mid) (file_of new) lists.reads.continues k) in
             cause_before (dump_of (world old).collections name ≡ None) old mid new begins.reads lists.reads k e
             (answers k whole.collection.documents (walk_on whole))

@@ -6,10 +6,10 @@ use Rattle.std.proofs.lemmas.Option.{slice_get_read}
 use Rattle.std.specs.Prelude.{◌⊎◌, ◌≢◌, Result, Option, Some, None, Err, Vec, Bool, true}
 use Rattle.std.specs.Global.{Global}
 use Rattle.page.specs.History.{History, KeepsWord}
-use Rattle.page.specs.Crash.{GoesOn, LeavesNow}
+use Rattle.page.specs.Crash.{ExtendsHistory, CrashLeaves}
 use Rattle.page.proofs.Moments.{goes_nowhere, goes_further, leaves_now}
 use Rattle.entries.specs.State.{Collection}
-use Rattle.opening.specs.Holding.{Holds}
+use Rattle.opening.specs.Holding.{HoldsCollections}
 use Rattle.server.specs.ServerState.{ServerState, fed, ended}
 use Rattle.server.specs.Turn.{Out, Turns, TurnFails}
 use Rattle.server.specs.Moment.{Moment, TurnEnd, Instant, end_at, last_collections, last_moment, FollowsInTurn, FollowInOrder, HoldsEither, LeavesInOrder}
@@ -140,7 +140,7 @@ pub record SoFar {D : Type 0} (history : D → History) (first : Core D) (all : 
   pub bound : out.turns ≤ i
   pub runs : out.stopped ≡ None
   pub sound : IsSound history now
-  pub on : GoesOn (disk_history history first) (disk_history history now)
+  pub extends : ExtendsHistory (disk_history history first) (disk_history history now)
   pub moments : FollowInOrder (moment_of history first) ends (moment_of history now)
   pub running : is_stopped now ≡ is_stopped first
   pub in_order : IsRunning first → KeepsWord (disk_history history now)
@@ -149,16 +149,16 @@ pub record SoFar {D : Type 0} (history : D → History) (first : Core D) (all : 
 
 pub starts : {D : Type 0} (history : D → History) (first : Core D) (all : List Step) (out : DriveOut) → out.replies.items ≡ [] → out.turns ≡ 0
     → out.stopped ≡ None → IsSound history first → SoFar history first all 0 out first
-starts history first all out nothing none goes sound = record {
+starts history first all out nothing none continues sound = record {
   ends = [];
   happens = λ k. (ap frames_in nothing, refl, refl);
   addresses = (ap frames_in nothing, refl);
   moment = refl;
   counted = none;
   bound = omega (arith, none);
-  runs = goes;
+  runs = continues;
   sound = sound;
-  on = goes_nowhere (disk_history history first);
+  extends = goes_nowhere (disk_history history first);
   moments = in_turn_itself (moment_of history first);
   running = refl;
   in_order = λ running keeps. (
@@ -193,10 +193,10 @@ ends history first all i out now whole s =
         whole = λ _. refl;
       };
       turns = s.counted ∙ ap turns_in every ∙ sym (ap (λ (stop : Option (ℕ × DriveFault)). turns_done stop all) s.runs);
-      on = s.on;
+      extends = s.extends;
       moments = s.moments;
       in_order = s.in_order;
-      at_end = λ running goes k image is. subst (Holds image) (same k) (holds_now history now s.sound (s.running ∙ running) k image is);
+      at_end = λ running continues k image is. subst (HoldsCollections image) (same k) (holds_now history now s.sound (s.running ∙ running) k image is);
       at_stop = λ running k image is. inr (holds_now history now s.sound (s.running ∙ running) k image is);
       idle = s.idle;
       running = λ _. s.running;
@@ -220,30 +220,31 @@ module _ {D : Type 0} (history : D → History) (first : Core D) (all : List Ste
   order_on last safe running keeps =
       in_order_on (disk_history history now) (disk_history history last) (clock_of history first) (collections_of first) s.ends (collections_of now)
       (collections_of last)
-      safe.on keeps (same_now (safe.on.kept keeps)) (safe.any_moment (s.running ∙ running)) (s.in_order running (safe.on.kept keeps))
+      safe.extends keeps (same_now (safe.extends.kept keeps)) (safe.any_moment (s.running ∙ running)) (s.in_order running (safe.extends.kept keeps))
 
   -- what a crash leaves up to the end of a turn that answered
   order_turned : (last : Core D) → GoesSafely history now last
-      → (IsRunning first → LeavesNow (disk_history history last) (λ image. Holds image (collections_of last)))
+      → (IsRunning first → CrashLeaves (disk_history history last) (λ image. HoldsCollections image (collections_of last)))
       → IsRunning first → KeepsWord (disk_history history last)
       → LeavesInOrder (disk_history history last) (clock_of history first) (collections_of first) (s.ends ++ end_at (instant_of history last) ∷ [])
       (collections_of last)
   order_turned last safe holds running keeps =
       in_order_turned (disk_history history now) (disk_history history last) (clock_of history first) (collections_of first) s.ends (collections_of now)
       (end_at (instant_of history last)) refl
-      safe.on keeps (same_now (safe.on.kept keeps)) (safe.any_moment (s.running ∙ running)) (holds running keeps) (s.in_order running (safe.on.kept keeps))
+      safe.extends keeps (same_now (safe.extends.kept keeps)) (safe.any_moment (s.running ∙ running)) (holds running keeps)
+      (s.in_order running (safe.extends.kept keeps))
 
   -- by the step: a turn has one end more, another none
   order_by : (x : Step) (last : Core D) (new : DriveOut) → Goes (instant_of history now) x old new (instant_of history last) → GoesSafely history now last
-      → (IsRunning first → LeavesNow (disk_history history last) (λ image. Holds image (collections_of last)))
+      → (IsRunning first → CrashLeaves (disk_history history last) (λ image. HoldsCollections image (collections_of last)))
       → IsRunning first → KeepsWord (disk_history history last)
       → LeavesInOrder (disk_history history last) (clock_of history first) (collections_of first) (s.ends ++ ends_of x (instant_of history last))
       (collections_of last)
-  order_by steps.Turn last new goes safe holds running keeps = order_turned last safe holds running keeps
-  order_by (steps.Bytes id chunk) last new goes safe holds running keeps =
+  order_by steps.Turn last new continues safe holds running keeps = order_turned last safe holds running keeps
+  order_by (steps.Bytes id chunk) last new continues safe holds running keeps =
       subst (λ (es : List TurnEnd). LeavesInOrder (disk_history history last) (clock_of history first) (collections_of first) es (collections_of last))
       (sym (append-nil s.ends)) (order_on last safe running keeps)
-  order_by (steps.Gone id) last new goes safe holds running keeps =
+  order_by (steps.Gone id) last new continues safe holds running keeps =
       subst (λ (es : List TurnEnd). LeavesInOrder (disk_history history last) (clock_of history first) (collections_of first) es (collections_of last))
       (sym (append-nil s.ends)) (order_on last safe running keeps)
 
@@ -267,34 +268,34 @@ module _ {D : Type 0} (history : D → History) (first : Core D) (all : List Ste
   pub step_on : (new : DriveOut) (last : Core D) → Goes (instant_of history now) step old new (instant_of history last) → IsSound history last
       → GoesSafely history now last
       → FollowsInTurn (moment_of history now) (moment_of history last) → is_stopped last ≡ is_stopped now → SoFar history first all (i + 1) new last
-  step_on new last goes sound safe turn same =
+  step_on new last continues sound safe turn same =
       let more : List TurnEnd = ends_of step (instant_of history last) in
       let next : KeepsWord (disk_history history last)
-      → Happens (last_moment (moment_of history first) s.ends) (state now) (step ∷ []) goes.frames more (state last) =
-      λ k. subst (λ (at : Moment). Happens at (state now) (step ∷ []) goes.frames more (state last)) s.moment (goes.happens k) in
+      → Happens (last_moment (moment_of history first) s.ends) (state now) (step ∷ []) continues.frames more (state last) =
+      λ k. subst (λ (at : Moment). Happens at (state now) (step ∷ []) continues.frames more (state last)) s.moment (continues.happens k) in
       let happens : KeepsWord (disk_history history last)
-      → Happens (moment_of history first) (state first) (take (i + 1) all) (frames_in old.replies.items ++ goes.frames) (s.ends ++ more) (state last) =
-      λ k. subst (λ (xs : List Step). Happens (moment_of history first) (state first) xs (frames_in old.replies.items ++ goes.frames) (s.ends ++ more)
+      → Happens (moment_of history first) (state first) (take (i + 1) all) (frames_in old.replies.items ++ continues.frames) (s.ends ++ more) (state last) =
+      λ k. subst (λ (xs : List Step). Happens (moment_of history first) (state first) xs (frames_in old.replies.items ++ continues.frames) (s.ends ++ more)
       (state last)) (sym taken)
       (happens_on (take i all) (step ∷ []) (moment_of history first) (state first) (state now) (state last)
-      (frames_in old.replies.items) goes.frames s.ends more (s.happens (safe.on.kept k)) (next k)) in
+      (frames_in old.replies.items) continues.frames s.ends more (s.happens (safe.extends.kept k)) (next k)) in
       record {
         ends = s.ends ++ more;
         happens = λ k. subst (λ (fs : Frames). Happens (moment_of history first) (state first) (take (i + 1) all) fs (s.ends ++ more) (state last))
-            (sym goes.adds.replies) (happens k);
+            (sym continues.adds.replies) (happens k);
         addresses = subst (λ (xs : List Step). Addresses (state first).connections xs (frames_in new.replies.items) (state last).connections) (sym taken)
-            (subst (λ (fs : Frames). Addresses (state first).connections (take i all ++ step ∷ []) fs (state last).connections) (sym goes.adds.replies)
+            (subst (λ (fs : Frames). Addresses (state first).connections (take i all ++ step ∷ []) fs (state last).connections) (sym continues.adds.replies)
             (addresses_on (take i all) (step ∷ []) (state first).connections (state now).connections (state last).connections
-            (frames_in old.replies.items) goes.frames s.addresses goes.addresses));
-        moment = goes.moment ∙ ap (λ (at : Moment). last_moment at more) s.moment ∙ sym (last_moment-append (moment_of history first) s.ends more);
-        counted = omega (arith, s.counted, goes.adds.counted, ap turns_in taken, turns_in-append (take i all) (step ∷ []));
-        bound = omega (arith, s.bound, goes.adds.counted, one_at_most step);
-        runs = goes.adds.stopped ∙ s.runs;
+            (frames_in old.replies.items) continues.frames s.addresses continues.addresses));
+        moment = continues.moment ∙ ap (λ (at : Moment). last_moment at more) s.moment ∙ sym (last_moment-append (moment_of history first) s.ends more);
+        counted = omega (arith, s.counted, continues.adds.counted, ap turns_in taken, turns_in-append (take i all) (step ∷ []));
+        bound = omega (arith, s.bound, continues.adds.counted, one_at_most step);
+        runs = continues.adds.stopped ∙ s.runs;
         sound = sound;
-        on = goes_further (disk_history history first) (disk_history history now) (disk_history history last) s.on safe.on;
+        extends = goes_further (disk_history history first) (disk_history history now) (disk_history history last) s.extends safe.extends;
         moments = follow_by step last turn;
         running = same ∙ s.running;
-        in_order = order_by step last new goes safe (λ running. holds_now history last sound (same ∙ s.running ∙ running));
+        in_order = order_by step last new continues safe (λ running. holds_now history last sound (same ∙ s.running ∙ running));
         idle = idle_on last safe;
       }
 
@@ -331,17 +332,17 @@ module _ {D : Type 0} (history : D → History) (first : Core D) (all : List Ste
   -- a step that changed nothing
   module _ (last : Core D) (sound : IsSound history last) (safe : GoesSafely history now last) (same : state last ≡ state now)
       (runs : is_stopped last ≡ is_stopped now) where
-    end_same : IsRunning first → LeavesNow (disk_history history last) (λ image. Holds image (last_collections (collections_of first) s.ends))
+    end_same : IsRunning first → CrashLeaves (disk_history history last) (λ image. HoldsCollections image (last_collections (collections_of first) s.ends))
     end_same running k image is =
-        subst (Holds image) (ap (λ (x : ServerState). x.world.collections) same ∙ same_now (safe.on.kept k))
+        subst (HoldsCollections image) (ap (λ (x : ServerState). x.world.collections) same ∙ same_now (safe.extends.kept k))
         (holds_now history last sound (runs ∙ s.running ∙ running) k image is)
 
   stop_now : (last : Core D) → GoesSafely history now last → IsRunning first
-      → LeavesNow (disk_history history last) (HoldsEither (last_collections (collections_of first) s.ends) (collections_of last))
+      → CrashLeaves (disk_history history last) (HoldsEither (last_collections (collections_of first) s.ends) (collections_of last))
   stop_now last safe running k image here = ⊎_elim
-      (λ holds. inl (subst (Holds image) (same_now (safe.on.kept k)) holds))
+      (λ holds. inl (subst (HoldsCollections image) (same_now (safe.extends.kept k)) holds))
       (λ holds. inr holds)
-      (leaves_now (disk_history history now) (disk_history history last) (HoldsEither (collections_of now) (collections_of last)) safe.on
+      (leaves_now (disk_history history now) (disk_history history last) (HoldsEither (collections_of now) (collections_of last)) safe.extends
       (safe.any_moment (s.running ∙ running)) k image here)
 
   -- a turn that handed out nothing, from the moment of the last one that answered
@@ -363,104 +364,105 @@ module _ {D : Type 0} (history : D → History) (first : Core D) (all : List Ste
       → (failing fault ≡ failing (stops.Turn turns.Stopped) → KeepsWord (disk_history history last)
       → (is_stopped now ≡ true) ⊎ ((disk_history history now).failed_writes < (disk_history history last).failed_writes))
       → Drives history first all (stopped_at fault new) last
-  stops_at (stops.Feed feeds.Memory) new last does sound safe turn runs cause = record {
+  stops_at (stops.Feed feeds.Memory) new last as_planned sound safe turn runs cause = record {
     given = frames_in new.replies.items;
     ends = s.ends;
     happens = (
-      (does.0.0, does.0.1, at new 0 does.1 _ does.0.2),
-      λ k. subst (λ (x : ServerState). Happens (moment_of history first) (state first) (take i all) (frames_in new.replies.items) s.ends x) (sym does.2)
-          (before new 0 does.1 (safe.on.kept k)),
+      (as_planned.0.0, as_planned.0.1, at new 0 as_planned.1 _ as_planned.0.2),
+      λ k. subst (λ (x : ServerState). Happens (moment_of history first) (state first) (take i all) (frames_in new.replies.items) s.ends x) (sym as_planned.2)
+          (before new 0 as_planned.1 (safe.extends.kept k)),
     );
     frames = refl;
     bytes = λ _. refl;
-    addressed = addressed new 0 does.1 (stops.Feed feeds.Memory) (state last).connections;
-    turns = omega (arith, does.1.counted, s.counted);
-    on = goes_further (disk_history history first) (disk_history history now) (disk_history history last) s.on safe.on;
+    addressed = addressed new 0 as_planned.1 (stops.Feed feeds.Memory) (state last).connections;
+    turns = omega (arith, as_planned.1.counted, s.counted);
+    extends = goes_further (disk_history history first) (disk_history history now) (disk_history history last) s.extends safe.extends;
     moments = follow_still last turn;
     in_order = order_on last safe;
-    at_end = λ running goes. end_same last sound safe does.2 (runs (λ e. absurd cc)) running;
+    at_end = λ running continues. end_same last sound safe as_planned.2 (runs (λ e. absurd cc)) running;
     at_stop = stop_now last safe;
     idle = idle_on last safe;
     running = λ _. runs (λ e. absurd cc) ∙ s.running;
     device = λ stop. absurd stop;
   }
-  stops_at (stops.Feed feeds.Closed) new last does sound safe turn runs cause = absurd does
-  stops_at (stops.Turn turns.Memory) new last does sound safe turn runs cause = record {
+  stops_at (stops.Feed feeds.Closed) new last as_planned sound safe turn runs cause = absurd as_planned
+  stops_at (stops.Turn turns.Memory) new last as_planned sound safe turn runs cause = record {
     given = frames_in new.replies.items;
     ends = s.ends;
     happens = (
-      at new 0 does.1 _ does.0,
-      record { before = state now; happens = λ k. before new 0 does.1 (safe.on.kept k); turn = failed_turn turns.Memory last does.2 },
+      at new 0 as_planned.1 _ as_planned.0,
+      record { before = state now; happens = λ k. before new 0 as_planned.1 (safe.extends.kept k); turn = failed_turn turns.Memory last as_planned.2 },
     );
     frames = refl;
     bytes = λ _. refl;
-    addressed = addressed new 0 does.1 (stops.Turn turns.Memory) (state last).connections;
-    turns = omega (arith, does.1.counted, s.counted);
-    on = goes_further (disk_history history first) (disk_history history now) (disk_history history last) s.on safe.on;
+    addressed = addressed new 0 as_planned.1 (stops.Turn turns.Memory) (state last).connections;
+    turns = omega (arith, as_planned.1.counted, s.counted);
+    extends = goes_further (disk_history history first) (disk_history history now) (disk_history history last) s.extends safe.extends;
     moments = follow_still last turn;
     in_order = order_on last safe;
-    at_end = λ running goes. end_same last sound safe
+    at_end = λ running continues. end_same last sound safe
         (subst (λ (b : Bool). TurnFails (KeepsWord (disk_history history last)) (IsCaused (moment_of history now) (moment_of history last))
-        (state now) turns.Memory b (state last)) (s.running ∙ running) does.2) (runs (λ e. absurd cc)) running;
+        (state now) turns.Memory b (state last)) (s.running ∙ running) as_planned.2) (runs (λ e. absurd cc)) running;
     at_stop = stop_now last safe;
     idle = idle_on last safe;
     running = λ _. runs (λ e. absurd cc) ∙ s.running;
     device = λ stop. absurd stop;
   }
-  stops_at (stops.Turn turns.Stopped) new last does sound safe turn runs cause = record {
+  stops_at (stops.Turn turns.Stopped) new last as_planned sound safe turn runs cause = record {
     given = frames_in new.replies.items;
     ends = s.ends;
     happens = (
-      at new 0 does.1 _ does.0,
-      record { before = state now; happens = λ k. before new 0 does.1 (safe.on.kept k); turn = failed_turn turns.Stopped last does.2 },
+      at new 0 as_planned.1 _ as_planned.0,
+      record { before = state now; happens = λ k. before new 0 as_planned.1 (safe.extends.kept k); turn = failed_turn turns.Stopped last as_planned.2 },
     );
     frames = refl;
     bytes = λ _. refl;
-    addressed = addressed new 0 does.1 (stops.Turn turns.Stopped) (state last).connections;
-    turns = omega (arith, does.1.counted, s.counted);
-    on = goes_further (disk_history history first) (disk_history history now) (disk_history history last) s.on safe.on;
+    addressed = addressed new 0 as_planned.1 (stops.Turn turns.Stopped) (state last).connections;
+    turns = omega (arith, as_planned.1.counted, s.counted);
+    extends = goes_further (disk_history history first) (disk_history history now) (disk_history history last) s.extends safe.extends;
     moments = follow_still last turn;
     in_order = order_on last safe;
-    at_end = λ running goes. absurd (goes tt);
+    at_end = λ running continues. absurd (continues tt);
     at_stop = stop_now last safe;
     idle = idle_on last safe;
-    running = λ goes. absurd (goes tt);
+    running = λ continues. absurd (continues tt);
     device = λ stop k. ⊎_elim
         (λ stopped_now. inl (sym s.running ∙ stopped_now))
-        (λ failed. inr (omega (arith, s.on.failed_writes (safe.on.kept k), failed)))
+        (λ failed. inr (omega (arith, s.extends.failed_writes (safe.extends.kept k), failed)))
         (cause refl k);
   }
-  stops_at stops.Gather new last does sound safe turn runs cause =
+  stops_at stops.Gather new last as_planned sound safe turn runs cause =
       let end : TurnEnd = end_at (instant_of history last) in
       let whole : collections_of last ≡ last_collections (collections_of first) (s.ends ++ end ∷ []) =
       sym (last_collections-append (collections_of first) s.ends (end ∷ [])) in
-      let now_holds : IsRunning first → LeavesNow (disk_history history last) (λ image. Holds image (collections_of last)) =
+      let now_holds : IsRunning first → CrashLeaves (disk_history history last) (λ image. HoldsCollections image (collections_of last)) =
       λ running. holds_now history last sound (runs (λ e. absurd cc) ∙ s.running ∙ running) in
       record {
         given = frames_in new.replies.items;
         ends = s.ends ++ end ∷ [];
         happens = (
-          at new 1 does.adds _ does.is,
+          at new 1 as_planned.adds _ as_planned.is,
           record {
             before = state now;
             earlier = s.ends;
-            lost = does.lost;
-            happens = λ k. before new 1 does.adds (safe.on.kept k);
+            lost = as_planned.lost;
+            happens = λ k. before new 1 as_planned.adds (safe.extends.kept k);
             turn = λ k. subst
-                (λ (m : Moment). Turns (IsCaused m (moment_of history last)) (TakenBack m (moment_of history last)) (state now) does.lost
+                (λ (m : Moment). Turns (IsCaused m (moment_of history last)) (TakenBack m (moment_of history last)) (state now) as_planned.lost
                 (state last)) s.moment
-                (does.turn k);
+                (as_planned.turn k);
             counted = refl;
           },
         );
         frames = refl;
         bytes = λ _. refl;
-        addressed = addressed new 1 does.adds stops.Gather (state last).connections;
-        turns = omega (arith, does.adds.counted, s.counted);
-        on = goes_further (disk_history history first) (disk_history history now) (disk_history history last) s.on safe.on;
+        addressed = addressed new 1 as_planned.adds stops.Gather (state last).connections;
+        turns = omega (arith, as_planned.adds.counted, s.counted);
+        extends = goes_further (disk_history history first) (disk_history history now) (disk_history history last) s.extends safe.extends;
         moments = follow_turned last turn;
         in_order = order_turned last safe now_holds;
-        at_end = λ running goes. subst (λ (x : List Collection). LeavesNow (disk_history history last) (λ image. Holds image x)) whole (now_holds running);
+        at_end = λ running continues. subst (λ (x : List Collection). CrashLeaves (disk_history history last) (λ image. HoldsCollections image x)) whole
+            (now_holds running);
         at_stop = λ running k image is. inr (now_holds running k image is);
         idle = idle_on last safe;
         running = λ _. runs (λ e. absurd cc) ∙ s.running;

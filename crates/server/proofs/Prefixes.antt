@@ -10,7 +10,7 @@ use Rattle.roots.specs.declared.opening.OpenFault.{OpenFault}
 use Rattle.roots.specs.declared.opening.OpenFault.TheVariants as faults
 use Rattle.entries.specs.State.{Collection}
 use Rattle.collections.proofs.LawLemmas.{holds_one}
-use Rattle.opening.specs.Holding.{Holds}
+use Rattle.opening.specs.Holding.{HoldsCollections}
 use Rattle.server.specs.ServerState.{ServerState, fed, ended}
 use Rattle.server.specs.Moment.{Moment, TurnEnd, Instant, HasKeptWord, end_at, last_collections, last_moment, HoldsEither, LeavesInOrder}
 use Rattle.server.specs.History.{Happens}
@@ -52,7 +52,7 @@ record HoldsFirst (image : ℕ → List ℕ) (before : List Collection) (answere
   pub first_ones : answered ≡ take (length answered) ends
   pub none_lost : length answered ≤ count
   pub one_more : count ≤ length answered + 1
-  pub holds : Holds image (after_turns before count (ends ++ more))
+  pub holds : HoldsCollections image (after_turns before count (ends ++ more))
 
 module _ (image : ℕ → List ℕ) (before : List Collection) (more : List TurnEnd) where
   -- none had answered: it holds what was there, or what the first one leaves
@@ -85,7 +85,7 @@ module _ (image : ℕ → List ℕ) (before : List Collection) (more : List Turn
     first_ones = refl;
     none_lost = omega arith;
     one_more = omega (arith, few);
-    holds = subst (Holds image) (is ∙ sym (ap (last_collections before) (take-length more))) holds;
+    holds = subst (HoldsCollections image) (is ∙ sym (ap (last_collections before) (take-length more))) holds;
   }
 
 module _ (h : History) (clock : ℕ) (within : clock ≤ h.clock) (image : ℕ → List ℕ) (left : IsImage (h.moment clock) image) (last : List Collection)

@@ -3,15 +3,15 @@ use Rattle.std.proofs.Common.{◌≡◌, inl, inr, ℕ, List, [], ◌++◌, refl
 use Rattle.std.specs.Prelude.{Bool, true, false, Result, Ok, Err, Some, None, Vec}
 use Rattle.std.specs.Global.{Global}
 use Rattle.page.specs.History.{History, KeepsWord}
-use Rattle.page.specs.Crash.{GoesOn}
+use Rattle.page.specs.Crash.{ExtendsHistory}
 use Rattle.roots.specs.declared.store.CommitFault.{CommitFault}
 use Rattle.roots.specs.declared.store.CommitFault.TheVariants as faults
 use Rattle.entries.specs.State.{Collection}
 use Rattle.database_model.specs.World.{World, are_untouched, after_undo}
 use Rattle.engine.specs.View.{world, turn_start}
-use Rattle.engine.specs.Committing.{Commits}
+use Rattle.engine.specs.Committing.{CommitsTurn}
 use Rattle.engine.specs.Continuing.{Continues}
-use Rattle.engine.specs.Durable.{disk_history, failed_reads_of, full_takes_of, generation, has_changes, is_stopped, IsRunning, IsSound}
+use Rattle.engine.specs.Durable.{disk_history, failed_reads_of, failed_allocations_of, generation, has_changes, is_stopped, IsRunning, IsSound}
 use Rattle.engine.specs.declared.engine.Engine.{Engine}
 use Rattle.engine.proofs.Continuing.{continues_further, continues_still}
 use Rattle.path.specs.declared.refusal.Refusal.{Refusal}
@@ -40,11 +40,11 @@ pub record Begins {D : Type 0} (history : D → History) (engine : Engine D) : T
   pub sound : IsSound history engine
   pub running : IsRunning engine
   pub idle : turn_start engine ≡ (world engine).collections
-  pub rests : has_changes engine ≡ false
+  pub clean : has_changes engine ≡ false
 
 -- what the messages of a turn leave to its end
 pub record Served {D : Type 0} (history : D → History) (old mid : Engine D) (ok : Bool) (given now : Frames) (connections : List Connection) : Type 0 where
-  pub goes : Continues history old mid
+  pub continues : Continues history old mid
   pub sound : IsSound history mid
   pub start : turn_start mid ≡ turn_start old
   pub serves : Serves (KeepsWord (disk_history history mid)) (IsCaused (engine_moment history old) (engine_moment history mid))
@@ -75,7 +75,7 @@ module _ {D : Type 0} (history : D → History) (old mid new : Engine D) (b : Be
   -- what the messages were answered, by the causes of the whole turn
   ran : Follows (engine_moment history mid) (engine_moment history new) → KeepsWord (disk_history history new)
       → Runs whole (world old) (calls connections) s.serves.replies (world mid)
-  ran after k = runs_weaker early whole (cause_over history old mid new s.goes after) (calls connections) (world old) s.serves.replies (world mid)
+  ran after k = runs_weaker early whole (cause_over history old mid new s.continues after) (calls connections) (world old) s.serves.replies (world mid)
       (s.serves.runs (after.word k))
 
   -- where none of them wrote anything, nothing has changed
@@ -83,15 +83,16 @@ module _ {D : Type 0} (history : D → History) (old mid new : Engine D) (b : Be
       → WroteNone whole (world old) (calls connections) s.serves.replies (world mid) (ran after k) → has_changes mid ≡ has_changes old
   unfolding ran
   wrote_none after k none = s.serves.wrote (after.word k)
-      (wrote_weaker early whole (cause_over history old mid new s.goes after) (calls connections) (world old) s.serves.replies (world mid)
+      (wrote_weaker early whole (cause_over history old mid new s.continues after) (calls connections) (world old) s.serves.replies (world mid)
       (s.serves.runs (after.word k)) none)
 
   -- where all of them left the collections as they were
   left_all : (after : Follows (engine_moment history mid) (engine_moment history new)) (k : KeepsWord (disk_history history new))
       → has_changes mid ≡ false → LeftAll whole (world old) (calls connections) s.serves.replies (world mid) (ran after k)
   unfolding ran
-  left_all after k rests = left_weaker early whole (cause_over history old mid new s.goes after) (calls connections) (world old) s.serves.replies (world mid)
-      (s.serves.runs (after.word k)) (s.serves.left_all (after.word k) rests)
+  left_all after k clean = left_weaker early whole (cause_over history old mid new s.continues after) (calls connections) (world old) s.serves.replies
+      (world mid)
+      (s.serves.runs (after.word k)) (s.serves.left_all (after.word k) clean)
 
   changed_nothing : KeepsWord (disk_history history mid) → ChangeNothing OfAnyCause (world old) (calls connections) → has_changes mid ≡ has_changes old
   changed_nothing k nothing = s.serves.wrote k
@@ -108,13 +109,13 @@ module _ {D : Type 0} (history : D → History) (old mid new : Engine D) (b : Be
   -- memory ran out for a reply
   pub undone : (frames : Given) → frames_in frames.items ≡ refused_frames refusals.OutOfMemory connections → IsSound history new
       → disk_history history new ≡ disk_history history mid → is_stopped new ≡ is_stopped mid → generation new ≡ generation mid
-      → full_takes_of history new ≡ full_takes_of history mid → failed_reads_of history new ≡ failed_reads_of history mid
+      → failed_allocations_of history new ≡ failed_allocations_of history mid → failed_reads_of history new ≡ failed_reads_of history mid
       → world new ≡ after_undo (turn_start mid) (world mid)
       → turn_start new ≡ (world new).collections → has_changes new ≡ false → are_untouched (world new).cursors ≡ true
       → RunsMessages history old connections (Some frames) new left
-  undone frames are sound disk running version takes reads back ended rests rested =
+  undone frames are sound disk running version takes reads back ended clean rested =
       let after = undo_follows history mid new (on_same (disk_history history mid) (disk_history history new) disk) takes version in
-      let goes = continues_further history old mid new s.goes (continues_still history mid new disk running version takes reads) in
+      let continues = continues_further history old mid new s.continues (continues_still history mid new disk running version takes reads) in
       record {
         sound = sound;
         settles = record {
@@ -123,48 +124,48 @@ module _ {D : Type 0} (history : D → History) (old mid new : Engine D) (b : Be
           anyhow = s.serves.anyhow;
           last = world mid;
           runs = ran after;
-          ends = inr (inl (are, λ k. version ∙ s.goes.version), back_to back, version ∙ s.goes.version);
+          ends = inr (inl (are, λ k. version ∙ s.continues.version), back_to back, version ∙ s.continues.version);
         };
         breaks = λ none. absurd cc;
         taken = took;
         idle = ended;
-        rests = rests;
+        clean = clean;
         rested = rested;
-        on = unwritten_on history old mid new b.sound b.running b.idle s.goes disk;
-        any_moment = unwritten history old mid new b.sound b.running b.idle s.goes disk;
-        running = running ∙ s.goes.running;
+        extends = unwritten_on history old mid new b.sound b.running b.idle s.continues disk;
+        any_moment = unwritten history old mid new b.sound b.running b.idle s.continues disk;
+        running = running ∙ s.continues.running;
         stops = λ none. absurd cc;
         device = λ none. absurd cc;
-        moment = turn_follows history old mid new s.goes (after, omega (arith, version));
+        moment = turn_follows history old mid new s.continues (after, omega (arith, version));
         commits = inl (same_again back);
         cut = λ none. absurd cc;
-        quiet = λ _ _. goes;
-        reads = λ _. goes;
+        quiet = λ _ _. continues;
+        reads = λ _. continues;
         void = λ none. disk ∙ ap (disk_history history) (s.idle none);
       }
 
   -- what a commit leaves, however it ends
-  module _ (r : Result (Unit {0}) CommitFault) (c : Commits history r mid new) where
+  module _ (r : Result (Unit {0}) CommitFault) (c : CommitsTurn history r mid new) where
     after : Follows (engine_moment history mid) (engine_moment history new)
     after = (commit_follows history mid new r c).0
 
-    goes_on : GoesOn (disk_history history old) (disk_history history new)
-    goes_on = then_on history old mid new b.sound b.running b.idle s.goes c.on
+    goes_on : ExtendsHistory (disk_history history old) (disk_history history new)
+    goes_on = then_on history old mid new b.sound b.running b.idle s.continues c.extends
 
     unchanged : has_changes mid ≡ has_changes old → Continues history old new
-    unchanged same = continues_further history old mid new s.goes (quiet_commit history mid new r (same ∙ b.rests) c)
+    unchanged same = continues_further history old mid new s.continues (quiet_commit history mid new r (same ∙ b.clean) c)
 
     quiet_so : KeepsWord (disk_history history new) → ChangeNothing OfAnyCause (world old) (calls connections) → Continues history old new
-    quiet_so k nothing = unchanged (changed_nothing (c.on.kept k) nothing)
+    quiet_so k nothing = unchanged (changed_nothing (c.extends.kept k) nothing)
 
     moment_so : FollowsInTurn (engine_moment history old) (engine_moment history new)
-    moment_so = turn_follows history old mid new s.goes (commit_follows history mid new r c)
+    moment_so = turn_follows history old mid new s.continues (commit_follows history mid new r c)
 
     void_so : calls connections ≡ [] → disk_history history new ≡ disk_history history old
-    void_so none = idle_commit history old mid new r b.rests (s.idle none) c
+    void_so none = idle_commit history old mid new r b.clean (s.idle none) c
 
   -- what the turn changed is durable
-  pub done : (frames : Given) → ok ≡ true → given ≡ [] → frames_in frames.items ≡ now → Commits history (Ok tt) mid new
+  pub done : (frames : Given) → ok ≡ true → given ≡ [] → frames_in frames.items ≡ now → CommitsTurn history (Ok tt) mid new
       → RunsMessages history old connections (Some frames) new left
   done frames fine none are c = record {
     sound = c.sound;
@@ -179,27 +180,27 @@ module _ {D : Type 0} (history : D → History) (old mid new : Engine D) (b : Be
         c.done,
         record {
           once = commits_once history old mid new (LeftCollections (world old) (calls connections) s.serves.replies (world mid) s.serves.anyhow)
-              (has_changes mid) refl s.serves.left s.goes c.version;
-          none = λ k wrote. (unchanged (Ok tt) c (s.serves.wrote_none (c.on.kept k) wrote)).version;
+              (has_changes mid) refl s.serves.left s.continues c.version;
+          none = λ k wrote. (unchanged (Ok tt) c (s.serves.wrote_none (c.extends.kept k) wrote)).version;
         },
         λ k. commits_once history old mid new (LeftAll whole (world old) (calls connections) s.serves.replies (world mid) (ran (after (Ok tt) c) k))
-            (has_changes mid) refl (left_all (after (Ok tt) c) k) s.goes c.version,
+            (has_changes mid) refl (left_all (after (Ok tt) c) k) s.continues c.version,
         λ k none. (unchanged (Ok tt) c (wrote_none (after (Ok tt) c) k none)).version,
       );
     };
     breaks = λ e. absurd cc;
     taken = took;
     idle = c.ended;
-    rests = c.rests;
+    clean = c.clean;
     rested = c.rested;
-    on = goes_on (Ok tt) c;
-    any_moment = moved history old mid new b.sound b.running b.idle s.goes c.on s.start c.done (c.any_moment (s.goes.running ∙ b.running));
-    running = c.running (λ e. absurd cc) ∙ s.goes.running;
+    extends = goes_on (Ok tt) c;
+    any_moment = moved history old mid new b.sound b.running b.idle s.continues c.extends s.start c.done (c.any_moment (s.continues.running ∙ b.running));
+    running = c.running (λ e. absurd cc) ∙ s.continues.running;
     stops = λ e. absurd cc;
     device = λ e. absurd cc;
     moment = moment_so (Ok tt) c;
     commits = commits_once history old mid new ((world new).collections ≡ (world old).collections) (has_changes mid) refl
-        (λ rests. ap (λ (w : World). w.collections) c.done ∙ sym (s.sound.quiet rests) ∙ before) s.goes c.version;
+        (λ clean. ap (λ (w : World). w.collections) c.done ∙ sym (s.sound.quiet clean) ∙ before) s.continues c.version;
     cut = λ e. absurd cc;
     quiet = quiet_so (Ok tt) c;
     reads = λ only. unchanged (Ok tt) c (s.reads only);
@@ -207,7 +208,7 @@ module _ {D : Type 0} (history : D → History) (old mid new : Engine D) (b : Be
   }
 
   -- the commit found no memory
-  pub no_memory : (frames : Given) → frames_in frames.items ≡ refused_frames refusals.OutOfMemory connections → Commits history (Err faults.Memory) mid new
+  pub no_memory : (frames : Given) → frames_in frames.items ≡ refused_frames refusals.OutOfMemory connections → CommitsTurn history (Err faults.Memory) mid new
       → RunsMessages history old connections (Some frames) new left
   no_memory frames are c = record {
     sound = c.sound;
@@ -217,16 +218,17 @@ module _ {D : Type 0} (history : D → History) (old mid new : Engine D) (b : Be
       anyhow = s.serves.anyhow;
       last = world mid;
       runs = ran (after (Err faults.Memory) c);
-      ends = inr (inl (are, λ k. c.version ∙ s.goes.version), back_to (c.memory refl), c.version ∙ s.goes.version);
+      ends = inr (inl (are, λ k. c.version ∙ s.continues.version), back_to (c.memory refl), c.version ∙ s.continues.version);
     };
     breaks = λ e. absurd cc;
     taken = took;
     idle = c.ended;
-    rests = c.rests;
+    clean = c.clean;
     rested = c.rested;
-    on = goes_on (Err faults.Memory) c;
-    any_moment = moved_back history old mid new b.sound b.running b.idle s.goes c.on s.start (c.kept (s.goes.running ∙ b.running) (λ e. absurd cc));
-    running = c.running (λ e. absurd cc) ∙ s.goes.running;
+    extends = goes_on (Err faults.Memory) c;
+    any_moment = moved_back history old mid new b.sound b.running b.idle s.continues c.extends s.start
+        (c.kept (s.continues.running ∙ b.running) (λ e. absurd cc));
+    running = c.running (λ e. absurd cc) ∙ s.continues.running;
     stops = λ e. absurd cc;
     device = λ e. absurd cc;
     moment = moment_so (Err faults.Memory) c;
@@ -238,18 +240,18 @@ module _ {D : Type 0} (history : D → History) (old mid new : Engine D) (b : Be
   }
 
   -- it found no room, so a message has written something
-  no_room_cause : Commits history (Err faults.Full) mid new → KeepsWord (disk_history history new) → cause refusals.Full
+  no_room_cause : CommitsTurn history (Err faults.Full) mid new → KeepsWord (disk_history history new) → cause refusals.Full
   no_room_cause c k = (
-    c.version ∙ s.goes.version,
-    room_ran_out history old mid new s.goes (c.on.kept k) (c.full refl).1,
+    c.version ∙ s.continues.version,
+    room_ran_out history old mid new s.continues (c.extends.kept k) (c.full refl).1,
   )
 
-  room_wrote : (c : Commits history (Err faults.Full) mid new) (k : KeepsWord (disk_history history new))
+  room_wrote : (c : CommitsTurn history (Err faults.Full) mid new) (k : KeepsWord (disk_history history new))
       → WroteNone whole (world old) (calls connections) s.serves.replies (world mid) (ran (after (Err faults.Full) c) k) → ⊥
-  room_wrote c k none = never faults.Full (c.quiet (wrote_none (after (Err faults.Full) c) k none ∙ b.rests)).0
+  room_wrote c k none = never faults.Full (c.quiet (wrote_none (after (Err faults.Full) c) k none ∙ b.clean)).0
 
   -- the commit found no room
-  pub no_room : (frames : Given) → frames_in frames.items ≡ refused_frames refusals.Full connections → Commits history (Err faults.Full) mid new
+  pub no_room : (frames : Given) → frames_in frames.items ≡ refused_frames refusals.Full connections → CommitsTurn history (Err faults.Full) mid new
       → RunsMessages history old connections (Some frames) new left
   no_room frames are c = record {
     sound = c.sound;
@@ -259,16 +261,17 @@ module _ {D : Type 0} (history : D → History) (old mid new : Engine D) (b : Be
       anyhow = s.serves.anyhow;
       last = world mid;
       runs = ran (after (Err faults.Full) c);
-      ends = inr (inr ((are, no_room_cause c), room_wrote c), back_to ((c.full refl).0), c.version ∙ s.goes.version);
+      ends = inr (inr ((are, no_room_cause c), room_wrote c), back_to ((c.full refl).0), c.version ∙ s.continues.version);
     };
     breaks = λ e. absurd cc;
     taken = took;
     idle = c.ended;
-    rests = c.rests;
+    clean = c.clean;
     rested = c.rested;
-    on = goes_on (Err faults.Full) c;
-    any_moment = moved_back history old mid new b.sound b.running b.idle s.goes c.on s.start (c.kept (s.goes.running ∙ b.running) (λ e. absurd cc));
-    running = c.running (λ e. absurd cc) ∙ s.goes.running;
+    extends = goes_on (Err faults.Full) c;
+    any_moment = moved_back history old mid new b.sound b.running b.idle s.continues c.extends s.start
+        (c.kept (s.continues.running ∙ b.running) (λ e. absurd cc));
+    running = c.running (λ e. absurd cc) ∙ s.continues.running;
     stops = λ e. absurd cc;
     device = λ e. absurd cc;
     moment = moment_so (Err faults.Full) c;
@@ -280,23 +283,24 @@ module _ {D : Type 0} (history : D → History) (old mid new : Engine D) (b : Be
   }
 
   -- the device failed in it
-  pub broken : Commits history (Err faults.Device) mid new → RunsMessages history old connections None new left
+  pub broken : CommitsTurn history (Err faults.Device) mid new → RunsMessages history old connections None new left
   broken c = record {
     sound = c.sound;
     settles = tt;
     breaks = λ _ k. record { replies = s.serves.replies; last = world mid; runs = ran (after (Err faults.Device) c) k; ends = (c.stops refl).0 };
     taken = took;
     idle = c.ended;
-    rests = c.rests;
+    clean = c.clean;
     rested = c.rested;
-    on = goes_on (Err faults.Device) c;
-    any_moment = moved history old mid new b.sound b.running b.idle s.goes c.on s.start (c.stops refl).0 (c.any_moment (s.goes.running ∙ b.running));
+    extends = goes_on (Err faults.Device) c;
+    any_moment = moved history old mid new b.sound b.running b.idle s.continues c.extends s.start (c.stops refl).0
+        (c.any_moment (s.continues.running ∙ b.running));
     running = tt;
     stops = λ _. (c.stops refl).1;
-    device = λ _ k. failed_further history old mid new b.sound b.running b.idle s.goes c.on k s.goes.running (c.device refl k);
+    device = λ _ k. failed_further history old mid new b.sound b.running b.idle s.continues c.extends k s.continues.running (c.device refl k);
     moment = moment_so (Err faults.Device) c;
     commits = tt;
-    cut = λ _. c.version ∙ s.goes.version;
+    cut = λ _. c.version ∙ s.continues.version;
     quiet = quiet_so (Err faults.Device) c;
     reads = λ only. unchanged (Err faults.Device) c (s.reads only);
     void = void_so (Err faults.Device) c;

@@ -9,7 +9,8 @@ use Rattle.server.specs.Moment.{Moment}
 -- Between these moments a page was asked for and none was free, which is counted (the count stays
 -- at its greatest value).
 abbrev pub FoundNoPage : Moment → Moment → Type 0
-FoundNoPage old new = (old.full_takes < new.full_takes) ⊎ (new.full_takes ≡ 2 ^ 64 - 1)
+FoundNoPage old new = (old.failed_allocations < new.failed_allocations)
+    ⊎ (new.failed_allocations ≡ 2 ^ 64 - 1)
 
 -- The causes of a refusal, by the first and the last moment of its turn, and by the world that the
 -- command leads to: memory ran out; or, where the disk has kept its word, the device failed; or no

@@ -1,7 +1,7 @@
 -- What a server keeps on its disk, and what a crash may leave.
 use Rattle.std.specs.Prelude.{◌≡◌, ℕ, Bool, true, false, List}
 use Rattle.page.specs.History.{History}
-use Rattle.page.specs.Crash.{GoesOn, LeavesOnly}
+use Rattle.page.specs.Crash.{ExtendsHistory, LeavesOnly}
 use Rattle.trusted_disk.specs.Trusting.{trusted_history}
 use Rattle.trusted_disk.specs.declared.disk.TrustedDisk.{TrustedDisk}
 use Rattle.collections.specs.State.{State}
@@ -33,7 +33,7 @@ pub record IsSound {D : Type 0} (history : D → History) (core : Core D) : Type
   pub engine : engines.IsSound (trusted_history history) core.engine
   pub idle : turn_start core.engine ≡ (world core.engine).collections
   pub rested : are_untouched (world core.engine).cursors ≡ true
-  pub rests : engines.has_changes core.engine ≡ false
+  pub clean : engines.has_changes core.engine ≡ false
   pub ascending : are_ascending core.connections.items ≡ true
 
 -- its file, with all that its commands have written
@@ -51,7 +51,7 @@ engine_moment history engine = record {
   clock = (engines.disk_history history engine).clock;
   failures = (engines.disk_history history engine).failures;
   generation = engines.generation engine;
-  full_takes = engines.full_takes_of history engine;
+  failed_allocations = engines.failed_allocations_of history engine;
 }
 
 abbrev pub moment_of : {D : Type 0} → (D → History) → Core D → Moment
@@ -60,7 +60,7 @@ moment_of history core = engine_moment (trusted_history history) core.engine
 -- What one step does to the disk: a crash at any moment of it leaves the collections as they were
 -- or as they are after it.
 pub record GoesSafely {D : Type 0} (history : D → History) (old new : Core D) : Type 0 where
-  pub on : GoesOn (disk_history history old) (disk_history history new)
+  pub extends : ExtendsHistory (disk_history history old) (disk_history history new)
   pub any_moment : IsRunning old → LeavesOnly (disk_history history old) (disk_history history new)
       (HoldsEither (collections_of old) (collections_of new))
   pub idle : is_stopped old ≡ true → disk_history history new ≡ disk_history history old

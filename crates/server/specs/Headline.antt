@@ -13,8 +13,8 @@ use Rattle.std.specs.Prelude.{◌≡◌, ◌⊎◌, ◌<◌, ℕ, ◌+◌, Bool,
 use Rattle.std.specs.Prelude.{slice_get, Option, Some, None, Vec}
 use Rattle.std.specs.Global.{Global}
 use Rattle.page.specs.History.{History, KeepsWord}
-use Rattle.page.specs.Crash.{GoesOn, LeavesNow}
-use Rattle.opening.specs.Holding.{Holds}
+use Rattle.page.specs.Crash.{ExtendsHistory, CrashLeaves}
+use Rattle.opening.specs.Holding.{HoldsCollections}
 use Rattle.server.specs.ServerState.{ServerState}
 use Rattle.server.specs.Turn.{Out, Turns, TurnFails}
 use Rattle.server.specs.Moment.{TurnEnd, Instant, HasKeptWord, end_at, last_collections}
@@ -110,7 +110,7 @@ pub record Drives {D : Type 0} (history : D → History) (first : Core D) (all :
   pub addressed :
       Addressed (state first).connections all out.stopped given (state last).connections
   pub turns : out.turns ≡ turns_done out.stopped all
-  pub on : GoesOn (disk_history history first) (disk_history history last)
+  pub extends : ExtendsHistory (disk_history history first) (disk_history history last)
   -- the moments of its turns' ends lie between the first one and now, in order, and what is counted
   -- never falls
   pub moments : FollowInOrder (moment_of history first) ends (moment_of history last)
@@ -121,10 +121,10 @@ pub record Drives {D : Type 0} (history : D → History) (first : Core D) (all :
       (collections_of first) ends (collections_of last)
   -- at the end, those after all turns that answered, or after one more in which the device failed
   pub at_end : IsRunning first → (IsStopped out.stopped → ⊥)
-      → LeavesNow (disk_history history last)
-      (λ image. Holds image (last_collections (collections_of first) ends))
+      → CrashLeaves (disk_history history last)
+      (λ image. HoldsCollections image (last_collections (collections_of first) ends))
   pub at_stop : IsRunning first
-      → LeavesNow (disk_history history last)
+      → CrashLeaves (disk_history history last)
       (HoldsEither (last_collections (collections_of first) ends) (collections_of last))
   pub idle : is_stopped first ≡ true → disk_history history last ≡ disk_history history first
   pub running : (IsStopped out.stopped → ⊥) → is_stopped last ≡ is_stopped first

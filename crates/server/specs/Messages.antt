@@ -4,13 +4,13 @@ use Rattle.std.specs.Prelude.{◌≡◌, ◌⊎◌, ◌+◌, ◌<◌, ℕ, List,
 use Rattle.std.specs.Prelude.{true, false}
 use Rattle.std.specs.Global.{Global}
 use Rattle.page.specs.History.{History, KeepsWord}
-use Rattle.page.specs.Crash.{GoesOn, LeavesOnly}
+use Rattle.page.specs.Crash.{ExtendsHistory, LeavesOnly}
 use Rattle.database_model.specs.World.{are_untouched}
 use Rattle.engine.specs.View.{world, turn_start}
 use Rattle.engine.specs.Continuing.{Continues}
 use Rattle.engine.specs.Durable.{disk_history, generation, has_changes, is_stopped, IsSound}
 use Rattle.engine.specs.declared.engine.Engine.{Engine}
-use Rattle.opening.specs.Holding.{Holds}
+use Rattle.opening.specs.Holding.{HoldsCollections}
 use Rattle.server.specs.Turn.{calls, connections_taken, ChangeNothing, AllRead}
 use Rattle.server.specs.Taking.{EndsTurn, BreaksTurn}
 use Rattle.server.specs.View.{frames_in}
@@ -35,11 +35,12 @@ pub record RunsMessages {D : Type 0} (history : D → History) (old : Engine D)
       (world old) connections (world new)
   pub taken : left ≡ connections_taken connections
   pub idle : turn_start new ≡ (world new).collections
-  pub rests : has_changes new ≡ false
+  pub clean : has_changes new ≡ false
   pub rested : are_untouched (world new).cursors ≡ true
-  pub on : GoesOn (disk_history history old) (disk_history history new)
+  pub extends : ExtendsHistory (disk_history history old) (disk_history history new)
   pub any_moment : LeavesOnly (disk_history history old) (disk_history history new)
-      (λ image. Holds image (world old).collections ⊎ Holds image (world new).collections)
+      (λ image. HoldsCollections image (world old).collections ⊎ HoldsCollections image
+      (world new).collections)
   pub running : IfSome result (λ _. is_stopped new ≡ is_stopped old)
   pub stops : result ≡ None → is_stopped new ≡ true
   pub device : result ≡ None → KeepsWord (disk_history history new)

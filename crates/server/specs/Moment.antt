@@ -3,7 +3,7 @@
 use Rattle.std.specs.Prelude.{◌⊎◌, ℕ, ◌+◌, Bool, IsTrue, ◌≤◌, List, [], ◌∷◌}
 use Rattle.page.specs.History.{History, IsImage}
 use Rattle.entries.specs.State.{Collection}
-use Rattle.opening.specs.Holding.{Holds}
+use Rattle.opening.specs.Holding.{HoldsCollections}
 use Rattle.server.specs.ServerState.{ServerState}
 
 pub record Moment : Type 0 where
@@ -11,7 +11,7 @@ pub record Moment : Type 0 where
   pub clock : ℕ
   pub failures : ℕ
   pub generation : ℕ
-  pub full_takes : ℕ
+  pub failed_allocations : ℕ
 
 -- A later moment of the same server: the disk had kept its word before, its clock and the number of
 -- the last commit have not fallen, nor, while it keeps its word, how often it had failed and no
@@ -20,7 +20,7 @@ pub record Follows (old new : Moment) : Type 0 where
   pub word : IsTrue new.keeps_word → IsTrue old.keeps_word
   pub clock : old.clock ≤ new.clock
   pub failures : IsTrue new.keeps_word → old.failures ≤ new.failures
-  pub takes : IsTrue new.keeps_word → old.full_takes ≤ new.full_takes
+  pub takes : IsTrue new.keeps_word → old.failed_allocations ≤ new.failed_allocations
   pub generation : old.generation ≤ new.generation
 
 -- with the end of one turn between them at most, which commits once or not at all
@@ -67,7 +67,7 @@ LeavesBetween h from to P =
     (t : ℕ) → from ≤ t → t ≤ to → (image : ℕ → List ℕ) → IsImage (h.moment t) image → P image
 
 abbrev pub HoldsEither : List Collection → List Collection → (ℕ → List ℕ) → Type 0
-HoldsEither before after image = Holds image before ⊎ Holds image after
+HoldsEither before after image = HoldsCollections image before ⊎ HoldsCollections image after
 
 -- From each turn's end to the next one's, a crash leaves the collections of the one or of the
 -- other, and from the last one's to now those after it or these.

@@ -15,8 +15,10 @@ inner_history history core = engines.inner_history history core.engine
 abbrev pub is_trusted : {D : Type 0} → Core D → Bool
 is_trusted core = engines.is_trusted core.engine
 
-pub record IsOpened {D : Type 0} (history : D → History) (disk : D) (core : Core D) : Type 0 where
-  pub sound : IsSound history core
-  pub engine : engines.IsOpened history disk core.engine
-  pub alone : state core
-      ≡ record { world = record new_world { collections = collections_of core }; connections = [] }
+pub record IsCoreOpened {D : Type 0} (history : D → History) (disk : D) (core : Core D) : Type 0
+  where
+    pub sound : IsSound history core
+    pub engine : engines.IsEngineOpened history disk core.engine
+    pub alone : state core
+        ≡ record { world = record new_world { collections = collections_of core }; connections =
+          [] }

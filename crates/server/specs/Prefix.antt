@@ -7,15 +7,15 @@ use Rattle.page.specs.History.{History, KeepsWord, now, reads, LeftSince}
 use Rattle.roots.specs.declared.opening.OpenFault.{OpenFault}
 use Rattle.roots.specs.declared.opening.OpenFault.TheVariants as faults
 use Rattle.entries.specs.State.{Collection}
-use Rattle.opening.specs.Holding.{Holds}
-use Rattle.opening.specs.Refusing.{IsRefused}
+use Rattle.opening.specs.Holding.{HoldsCollections}
+use Rattle.opening.specs.Refusing.{IsFileRefused}
 use Rattle.server.specs.ServerState.{ServerState}
 use Rattle.server.specs.Turn.{Cut}
 use Rattle.server.specs.Moment.{TurnEnd, Instant, end_at, last_collections, last_moment}
 use Rattle.server.specs.Causes.{IsCaused}
 use Rattle.server.specs.History.{Happens}
 use Rattle.server.specs.Durable.{disk_history, IsRunning, collections_of, clock_of, instant_of}
-use Rattle.server.specs.Opening.{IsOpened, is_trusted}
+use Rattle.server.specs.Opening.{IsCoreOpened, is_trusted}
 use Rattle.server.specs.Headline.{Drives, TurnStandsAt}
 use Rattle.server.specs.declared.turn.Core.{Core}
 use Rattle.server.specs.declared.turn.TurnFault.TheVariants as turns
@@ -88,10 +88,10 @@ pub record FindsPrefix {D : Type 0} (history : D → History) (disk : D) (first 
   pub cut : length ends < count → ReachesCut first all ends last collections
   -- the disk holds these collections, and whoever opens it finds them and trusts it, or is refused
   -- for the device's fault or want of memory alone
-  pub holds : Holds (reads (now (history disk))) collections
-  pub found : (core : Core D) → IsOpened history disk core
+  pub holds : HoldsCollections (reads (now (history disk))) collections
+  pub found : (core : Core D) → IsCoreOpened history disk core
       → (is_trusted core ≡ true) × (collections_of core ≡ collections)
-  pub refused : (back : D) (fault : OpenFault) → IsRefused history disk back fault
+  pub refused : (back : D) (fault : OpenFault) → IsFileRefused history disk back fault
       → KeepsWord (history back) → (fault ≡ faults.Device) ⊎ (fault ≡ faults.Memory)
 
 -- For a run of a server that had not stopped, over a disk that keeps its word, any moment from the

@@ -81,7 +81,7 @@ IsTaken old front other new = ⊥
 -- The calls were answered, one reply each, and at ok each frame was put at the end. While the word
 -- is kept, they were answered so, and where none of them wrote anything, all is the same. At rest,
 -- with no change to be committed, each of them left the collections as they were.
-pub record Serves (word : Type 0) (beside : World → Refusal → Type 0) (same rests : Type 0)
+pub record Serves (word : Type 0) (beside : World → Refusal → Type 0) (same clean : Type 0)
     (calls : List Call) (old new : World) (ok : Bool) (given now : List (ℕ × List ℕ)) : Type 0 where
   pub replies : List Pairs
   pub one_each : length replies ≡ length calls
@@ -90,8 +90,8 @@ pub record Serves (word : Type 0) (beside : World → Refusal → Type 0) (same 
   pub frames : ok ≡ true → now ≡ given ++ frames_of calls replies
   pub anyhow : RunsOnAnyDisk old calls replies new
   pub wrote_none : word → WroteNoneOnAnyDisk old calls replies new anyhow → same
-  pub left : rests → LeftCollections old calls replies new anyhow
-  pub left_all : (k : word) → rests → LeftAll beside old calls replies new (runs k)
+  pub left : clean → LeftCollections old calls replies new anyhow
+  pub left_all : (k : word) → clean → LeftAll beside old calls replies new (runs k)
 
 -- a request with this body, whatever frame it came in
 abbrev pub IsAnswer : (World → Refusal → Type 0) → World → ℕ → Request → World → Pairs → Type 0

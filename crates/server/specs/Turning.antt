@@ -2,10 +2,10 @@
 use Rattle.std.specs.Prelude.{◌≡◌, ◌≢◌, ◌⊎◌, ◌+◌, ◌<◌, true, [], Result, Err, IfOk, IfErr, OnOk}
 use Rattle.std.specs.Prelude.{OnErr}
 use Rattle.page.specs.History.{History, KeepsWord}
-use Rattle.page.specs.Crash.{GoesOn, LeavesOnly, LeavesNow}
+use Rattle.page.specs.Crash.{ExtendsHistory, LeavesOnly, CrashLeaves}
 use Rattle.trusted_disk.specs.Trusting.{trusted_history}
 use Rattle.engine.specs.Continuing.{Continues}
-use Rattle.opening.specs.Holding.{Holds}
+use Rattle.opening.specs.Holding.{HoldsCollections}
 use Rattle.server.specs.Turn.{calls, connections_after, AllRead, HandsOut, RunsAndHandsOut, Turns}
 use Rattle.server.specs.Turn.{ChangesNothing, TurnFails, TurnsOnce}
 use Rattle.server.specs.Moment.{HoldsEither, FollowsInTurn}
@@ -51,7 +51,7 @@ pub record TakesTurn {D : Type 0} (history : D → History) (old : Core D)
       (is_stopped old) (state new))
   -- where memory runs out before a message is taken, all is as it was
   pub untouched : result ≡ Err turn_faults.Memory → new ≡ old
-  pub on : GoesOn (disk_history history old) (disk_history history new)
+  pub extends : ExtendsHistory (disk_history history old) (disk_history history new)
   -- a crash at any moment of the call leaves the collections as they were before the turn or as
   -- they are after it
   pub any_moment : IsRunning old → LeavesOnly (disk_history history old) (disk_history history new)
@@ -59,7 +59,8 @@ pub record TakesTurn {D : Type 0} (history : D → History) (old : Core D)
   -- at Ok it leaves them as they are after it, and nothing else
   pub acknowledged : IsRunning old
       → OnOk result
-      (LeavesNow (disk_history history new) (λ image. Holds image (collections_of new)))
+      (CrashLeaves (disk_history history new)
+      (λ image. HoldsCollections image (collections_of new)))
   -- a server that had stopped answers so, and leaves the disk as it is; another stops only where a
   -- write or a sync failed
   pub running : result ≢ Err turn_faults.Stopped → is_stopped new ≡ is_stopped old

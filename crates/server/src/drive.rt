@@ -40,7 +40,7 @@ impl<D: Disk> Core<D> {
         requires sound { IsSound D.history self.old }
         requires counts { out.old.turns + 1 < 2 ^ 64 }
         ensures sound { IsSound D.history self.new }
-        ensures does { Does (instant_of D.history self.old) step.now out.old result
+        ensures as_planned { Does (instant_of D.history self.old) step.now out.old result
             (is_stopped self.old) out.new (instant_of D.history self.new) }
         ensures disk { GoesSafely D.history self.old self.new }
         ensures moment { FollowsInTurn (moment_of D.history self.old) (moment_of D.history self.new) }

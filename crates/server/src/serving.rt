@@ -72,7 +72,7 @@ fn answer<D: Disk>(engine: &mut Engine<D>, id: ConnId, request: &Request) -> Rep
     requires sound { IsSound D.history engine.old }
     requires running { IsRunning engine.old }
     ensures sound { IsSound D.history engine.new }
-    ensures goes { Continues D.history engine.old engine.new }
+    ensures continues { Continues D.history engine.old engine.new }
     ensures running { is_stopped engine.new ≡ is_stopped engine.old }
     ensures answer { KeepsWord (disk_history D.history engine.new)
         → IsAnswer (IsCaused (engine_moment D.history engine.old)
@@ -109,7 +109,7 @@ fn serve_connection<D: Disk>(
     requires sound { IsSound D.history engine.old }
     requires running { IsRunning engine.old }
     ensures sound { IsSound D.history engine.new }
-    ensures goes { Continues D.history engine.old engine.new }
+    ensures continues { Continues D.history engine.old engine.new }
     ensures running { is_stopped engine.new ≡ is_stopped engine.old }
     ensures serves { Serves (KeepsWord (disk_history D.history engine.new))
         (IsCaused (engine_moment D.history engine.old) (engine_moment D.history engine.new))
@@ -147,7 +147,7 @@ fn serve_connections<D: Disk>(
     requires sound { IsSound D.history engine.old }
     requires running { IsRunning engine.old }
     ensures sound { IsSound D.history engine.new }
-    ensures goes { Continues D.history engine.old engine.new }
+    ensures continues { Continues D.history engine.old engine.new }
     ensures running { is_stopped engine.new ≡ is_stopped engine.old }
     ensures serves { Serves (KeepsWord (disk_history D.history engine.new))
         (IsCaused (engine_moment D.history engine.old) (engine_moment D.history engine.new))
@@ -179,7 +179,7 @@ pub(crate) fn run_messages<D: Disk>(
     requires sound { IsSound D.history engine.old }
     requires running { IsRunning engine.old }
     requires idle { turn_start engine.old ≡ (world engine.old).collections }
-    requires rests { has_changes engine.old ≡ false }
+    requires clean { has_changes engine.old ≡ false }
     requires refusals { frames_in refusals.items
         ≡ refused_frames OutOfMemory connections.old.items }
     ensures { RunsMessages D.history engine.old connections.old.items result engine.new

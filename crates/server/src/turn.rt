@@ -76,21 +76,21 @@ impl<D: Disk> Core<D> {
     ghost use Rattle.std.specs.Prelude.{◌≢◌, Err, IfOk, IfErr, OnErr, is_err};
     ghost use Rattle.roots.specs.Store.{limit_in};
     ghost use Rattle.collections.specs.Opening.{HasLimit};
-    ghost use Rattle.opening.specs.Refusing.{IsRefused};
+    ghost use Rattle.opening.specs.Refusing.{IsFileRefused};
     ghost use Rattle.server.specs.ServerState.{fed, ended, find_connection, is_closed_in};
     ghost use Rattle.server.specs.Turn.{is_waiting_in};
     ghost use Rattle.server.specs.View.{state};
     ghost use Rattle.server.specs.Durable.{disk_history, is_stopped, file_of, moment_of, IsSound};
-    ghost use Rattle.server.specs.Opening.{IsOpened, inner_history};
+    ghost use Rattle.server.specs.Opening.{IsCoreOpened, inner_history};
     ghost use Rattle.server.specs.Turning.{TakesTurn};
 
     /// Opens the database on a disk that a crash may have left; a disk of zeros holds the empty one. It
     /// writes nothing, and syncs before it answers. It doesn't look whether the file is sound: what isn't is
     /// a failure of the command that meets it, and `check` looks at all. An `Err` hands the disk back.
     pub fn open(alloc: Global, disk: D, config: Config) -> Result<Core<D>, (D, OpenFault)>
-        ensures opened { IfOk result (IsOpened D.history disk) }
+        ensures opened { IfOk result (IsCoreOpened D.history disk) }
         ensures limit { IfOk result (λ core. HasLimit (limit_in config) (file_of core)) }
-        ensures refused { IfErr result (λ e. IsRefused D.history disk e.0 e.1) }
+        ensures refused { IfErr result (λ e. IsFileRefused D.history disk e.0 e.1) }
     {
         match Engine::open(alloc, disk, config) {
             Ok(engine) => Ok(Core {

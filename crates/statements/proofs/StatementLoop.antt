@@ -40,12 +40,12 @@ left_writes_of i ss s l within is =
 
 -- What statements wrote up to this one, and what is left.
 pub record HasLeft (ss : List UpdateStatement) (start now : Run) (i : ℕ) : Type 0 where
-  pub on : RunsOn start now
+  pub extends : RunsOn start now
   pub same : run_each i (drop i ss) (listed_of now) ≡ run_each 0 ss (listed_of start)
   pub wrote : written now ++ writes_from i (drop i ss) (listed_of now) ≡ written start ++ writes_from 0 ss (listed_of start)
 
 pub none_left : (ss : List UpdateStatement) (start : Run) → All IsWithin start.documents.items → HasLeft ss start start 0
-none_left ss start within = record { on = RunsOn-refl start within; same = refl; wrote = refl }
+none_left ss start within = record { extends = RunsOn-refl start within; same = refl; wrote = refl }
 
 module _ (ss : List UpdateStatement) (start now : Run) (i : ℕ) (far : HasLeft ss start now i) where
   module _ (s : UpdateStatement) (within : i < length ss) (is : s ≡ get_or ss i s) (next : Run) where
@@ -60,7 +60,7 @@ module _ (ss : List UpdateStatement) (start now : Run) (i : ℕ) (far : HasLeft 
     pub left_on : run_listed i s (listed_of now) ≡ Ok (listed_of next) → HasWritten (statement_writes s now.documents.items) now next
         → HasLeft ss start next (i + 1)
     left_on planned one = record {
-      on = RunsOn-trans start now next far.on one.on;
+      extends = RunsOn-trans start now next far.extends one.extends;
       same = sym (run_one i ss s (listed_of now) within is ∙ ap (λ (r : Result Listed Refusal). r >>= run_each (i + 1) (drop (i + 1) ss)) planned) ∙ far.same;
       wrote = ap (λ (ws : List DocumentWrite). ws ++ writes_from (i + 1) (drop (i + 1) ss) (listed_of next)) one.wrote
           ∙ append_assoc (written now) (statement_writes s now.documents.items) (writes_from (i + 1) (drop (i + 1) ss) (listed_of next))
@@ -76,8 +76,8 @@ module _ (ss : List UpdateStatement) (start now : Run) (i : ℕ) (far : HasLeft 
         record {
           wrote = stop.wrote ∙ ap (λ (ws : List DocumentWrite). written now ++ ws) (sym (append-nil (statement_writes s now.documents.items)))
               ∙ writes_left (Err e) (planned other);
-          puttable = λ h. stop.puttable (far.on.puttable h);
-          keeps = λ from h. subst (λ (k : Bool). AreWritten k from next.writes.items) far.on.kept (stop.keeps from (far.on.keeps from h));
+          puttable = λ h. stop.puttable (far.extends.puttable h);
+          keeps = λ from h. subst (λ (k : Bool). AreWritten k from next.writes.items) far.extends.kept (stop.keeps from (far.extends.keeps from h));
         }
 
   -- all are done
@@ -85,7 +85,7 @@ module _ (ss : List UpdateStatement) (start now : Run) (i : ℕ) (far : HasLeft 
   left_none whole = record {
     wrote = sym (append-nil (written now)) ∙ ap (λ (xs : List UpdateStatement). written now ++ writes_from i xs (listed_of now)) (sym (drop_all i ss whole))
         ∙ far.wrote;
-    on = far.on;
+    extends = far.extends;
   }
 
 -- ---- from the beginning
@@ -104,9 +104,9 @@ module _ (start new : Run) (from : List Pairs) (same : start.documents.items ≡
 
   -- what was run from the beginning
   pub ran_from : RunsOn start new → IsRun from new
-  ran_from on = record {
-    quiet = λ h. (on.quiet h).1 ∙ none;
-    keeps = λ up stored. on.keeps from (starts up stored);
+  ran_from extends = record {
+    quiet = λ h. (extends.quiet h).1 ∙ none;
+    keeps = λ up stored. extends.keeps from (starts up stored);
   }
 
   module _ (ss : List UpdateStatement) (keeps_old : Bool) (keeps : start.keeps_old ≡ keeps_old) (begun : listed_of start ≡ not_listed from) where
@@ -117,9 +117,10 @@ module _ (start new : Run) (from : List Pairs) (same : start.documents.items ≡
         → IsRan keeps_old ss from (record { writes = new.writes; end = Ok new.tally })
     ran_to_end planned one = record {
       writes = all_written one.wrote;
-      puttable = one.on.puttable (no_writes MayBePut start.writes.items none);
-      written = λ up stored. subst (λ (k : Bool). AreWritten k from new.writes.items) (one.on.kept ∙ keeps) (one.on.keeps from (starts up stored)).written;
-      end = record { run = new; planned = ap (run_each 0 ss) (sym begun) ∙ planned; writes = refl; tally = refl; is = ran_from one.on };
+      puttable = one.extends.puttable (no_writes MayBePut start.writes.items none);
+      written = λ up stored. subst (λ (k : Bool). AreWritten k from new.writes.items) (one.extends.kept ∙ keeps)
+          (one.extends.keeps from (starts up stored)).written;
+      end = record { run = new; planned = ap (run_each 0 ss) (sym begun) ∙ planned; writes = refl; tally = refl; is = ran_from one.extends };
     }
 
     pub ran_to_refusal : (e : Refusal) → e ≢ refusals.OutOfMemory → Fails refusals.OutOfMemory e (run_each 0 ss (listed_of start))

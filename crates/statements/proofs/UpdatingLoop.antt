@@ -30,7 +30,7 @@ use Rattle.database_model.specs.Lawful.{IsStored, IsWithin}
 use Rattle.database_model.specs.Merging.{Listed, none_changed, listed_to, one_or_none, put_each, run_listed, upsert_listed}
 use Rattle.database_model.specs.Update.{counted, spelled, Changed, passed_over, changed_to, update_from, upsert_document}
 use Rattle.statements.specs.Updating.{AreWritten, changed_of, ChangesAt, document_at, HasInserted, HasNone, HasRun, HasStopped, HasWritten, HaveOld, IsChange}
-use Rattle.statements.specs.Updating.{IsMadeIn, IsRefused, IsRunOf, listed_of, MayBePut, news_of, replaced_in, RunsOn, seen, write_of_new, written, Wrote}
+use Rattle.statements.specs.Updating.{IsMadeIn, IsUpdateRefused, IsRunOf, listed_of, MayBePut, news_of, replaced_in, RunsOn, seen, write_of_new, written, Wrote}
 use Rattle.database_model.specs.Writes.{change_writes, changes_of, made_write, statement_writes, updated_by}
 use Rattle.statements.specs.declared.statements.Run.{Run}
 use Rattle.statements.specs.declared.statements.Write.{Write}
@@ -67,10 +67,10 @@ stopped_behind ws a b c first same later = record {
 
 -- a run that went on and is refused where it is
 pub stops : (ws : List DocumentWrite) (a b : Run) → RunsOn a b → written b ≡ written a ++ ws → HasStopped ws a b
-stops ws a b on wrote = record {
+stops ws a b extends wrote = record {
   wrote = wrote;
-  puttable = on.puttable;
-  keeps = λ from h. subst (λ (k : Bool). AreWritten k from b.writes.items) on.kept (on.keeps from h).written;
+  puttable = extends.puttable;
+  keeps = λ from h. subst (λ (k : Bool). AreWritten k from b.writes.items) extends.kept (extends.keeps from h).written;
 }
 
 -- ---- documents that are put
@@ -121,7 +121,7 @@ module _ (u : Change) (at : ℕ) (old new : Run) (matched : new.tally.matched �
         ∙ ap (λ (b : Bool). if b then old.tally.modified else counted old.tally.modified) (sym ((bytes_eq-Decides (spelled d) (spelled d)).1 refl));
     upserted = upserted;
     wrote = ap (map seen) none ∙ sym (append-nil (written old)) ∙ ap (λ (ws : List DocumentWrite). written old ++ ws) (sym (none_written d));
-    on = record {
+    extends = record {
       within = subst (All IsWithin) (sym same) within;
       puttable = λ h. subst (λ (ws : List Write). All MayBePut (news_of ws)) (sym none) h;
       quiet = λ h. ((sym modified ∙ h.0, sym upserted ∙ h.1), none);
@@ -179,7 +179,7 @@ module _ (u : Change) (at : ℕ) (old new : Run) (matched : new.tally.matched �
       modified = modified ∙ ap (λ (b : Bool). if b then old.tally.modified else counted old.tally.modified) (sym change.differs);
       upserted = upserted;
       wrote = ap (map seen) more ∙ seen_more old.writes.items w ∙ ap (λ (ws : List DocumentWrite). written old ++ ws) (sym (one_written d made change.differs));
-      on = record {
+      extends = record {
         within = subst (All IsWithin) (sym puts) (All-set IsWithin old.documents.items at made is_within within);
         puttable = λ h. subst (All MayBePut) (sym all_news) (All-more MayBePut (news_of old.writes.items) made h (change_puttable u d made change));
         quiet = λ h. absurd (some_modified old.tally.modified (sym modified ∙ h.0));
@@ -192,7 +192,7 @@ module _ (u : Change) (at : ℕ) (old new : Run) (matched : new.tally.matched �
 
 -- what the loop has done, up to this place
 pub record Looking (s : UpdateStatement) (start now : Run) (found : Bool) (at : ℕ) : Type 0 where
-  pub on : RunsOn start now
+  pub extends : RunsOn start now
   pub count : length now.documents.items ≡ length start.documents.items
   pub same : update_from s (record (changed_of found now) { documents = take at now.documents.items }) (drop at now.documents.items)
       ≡ update_from s (none_changed (listed_of start)) start.documents.items
@@ -203,7 +203,7 @@ pub record Looking (s : UpdateStatement) (start now : Run) (found : Bool) (at : 
       ++ changes_of s.change (updated_by s start.documents.items)
 
 pub begins : (s : UpdateStatement) (start : Run) → All IsWithin start.documents.items → Looking s start start false 0
-begins s start within = record { on = RunsOn-refl start within; count = refl; same = refl; none = λ e. refl; upserted = refl; any = refl; wrote = refl }
+begins s start within = record { extends = RunsOn-refl start within; count = refl; same = refl; none = λ e. refl; upserted = refl; any = refl; wrote = refl }
 
 module _ (s : UpdateStatement) (start now : Run) (found : Bool) (i : ℕ) (far : Looking s start now found i) (below : i < length now.documents.items) where
   abbrev here : List Pairs
@@ -248,7 +248,7 @@ module _ (s : UpdateStatement) (start now : Run) (found : Bool) (i : ℕ) (far :
   -- it doesn't match
   pub goes_by : matches s.filter at_hand ≡ false → Looking s start now found (i + 1)
   goes_by other = record {
-    on = far.on;
+    extends = far.extends;
     count = far.count;
     same = ap (λ (ds : List Pairs). update_from s (changed_with ds found now) rest) (take_more here i no_pairs below)
         ∙ sym (ap (λ (b : Bool). one_step b (apply s.change 65535 at_hand) s.multi) other) ∙ looked;
@@ -261,7 +261,7 @@ module _ (s : UpdateStatement) (start now : Run) (found : Bool) (i : ℕ) (far :
   -- it matches, and is refused
   pub refused_one : (e : Refusal) (next : Run) → matches s.filter at_hand ≡ true → Fails refusals.OutOfMemory e (apply s.change 65535 at_hand)
       → (e ≢ refusals.OutOfMemory → next ≡ now)
-      → IsRefused s e start next
+      → IsUpdateRefused s e start next
   refused_one e next match is same = record {
     planned = λ other. sym looked ∙ (λ k. one_step (match k) (is other k) s.multi);
     writes = λ other.
@@ -270,7 +270,7 @@ module _ (s : UpdateStatement) (start now : Run) (found : Bool) (i : ℕ) (far :
         ∙ left_writes
         ∙ ap (λ (ws : List DocumentWrite). written start ++ ws) (sym (writes_changes s start.documents.items (some_match match))) in
         subst (HasStopped (statement_writes s start.documents.items) start) (sym (same other))
-        (stops (statement_writes s start.documents.items) start now far.on wrote);
+        (stops (statement_writes s start.documents.items) start now far.extends wrote);
   }
 
   -- it matches, and is changed
@@ -293,7 +293,7 @@ module _ (s : UpdateStatement) (start now : Run) (found : Bool) (i : ℕ) (far :
 
     pub goes_on : s.multi ≡ true → Looking s start next true (i + 1)
     goes_on multi = record {
-      on = RunsOn-trans start now next far.on up.on;
+      extends = RunsOn-trans start now next far.extends up.extends;
       count = ap length documents_now ∙ length-set here i up.made ∙ far.count;
       same = ap (λ (ds : List Pairs). update_from s (changed_with (take (i + 1) ds) true next) (drop (i + 1) ds)) documents_now
           ∙ (λ k. update_from s (sym to_changed k) (rest_now k))
@@ -315,7 +315,7 @@ module _ (s : UpdateStatement) (start now : Run) (found : Bool) (i : ℕ) (far :
       upserted = up.upserted ∙ far.upserted;
       any = some_match match;
       wrote = up.wrote ∙ ap (λ (ws : List DocumentWrite). written now ++ ws) (sym (changes_only s at_hand rest match up.made up.is single)) ∙ left_writes;
-      on = RunsOn-trans start now next far.on up.on;
+      extends = RunsOn-trans start now next far.extends up.extends;
     }
 
 -- no document is left
@@ -329,7 +329,7 @@ looked_at_all s start now found i far whole = record {
   any = sym far.any ∙ ap (λ (ds : List Pairs). found || list_any (matches s.filter) ds) (drop_all i now.documents.items whole) ∙ or_false found;
   wrote = sym (append-nil (written now)) ∙ ap (λ (ds : List Pairs). written now ++ changes_of s.change ds) (sym (updated_none s))
       ∙ ap (λ (ds : List Pairs). written now ++ changes_of s.change (updated_by s ds)) (sym (drop_all i now.documents.items whole)) ∙ far.wrote;
-  on = far.on;
+  extends = far.extends;
 }
 
 -- ---- a document that is made
@@ -386,7 +386,7 @@ inserts_on d old mid new stored readable put same none keeps some =
 
 wrote_behind : (ws : List DocumentWrite) (a b c : Run) → RunsOn a b → written b ≡ written a → (r : Result (Unit {0}) Refusal) → Wrote r ws b c → Wrote r ws a c
 wrote_behind ws a b c first same
-    (Ok u) later = record { wrote = later.wrote ∙ ap (λ (xs : List DocumentWrite). xs ++ ws) same; on = RunsOn-trans a b c first later.on }
+    (Ok u) later = record { wrote = later.wrote ∙ ap (λ (xs : List DocumentWrite). xs ++ ws) same; extends = RunsOn-trans a b c first later.extends }
 wrote_behind ws a b c first same (Err e) later = λ other. stopped_behind ws a b c first same (later other)
 
 module _ (index : ℕ) (s : UpdateStatement) (old mid : Run) where
@@ -417,7 +417,7 @@ module _ (index : ℕ) (s : UpdateStatement) (old mid : Run) where
     pub found_wrote : found ≡ true → HasWritten (statement_writes s old.documents.items) old mid
     found_wrote is = record {
       wrote = up.wrote ∙ ap (λ (ws : List DocumentWrite). written old ++ ws) (sym (writes_changes s old.documents.items (up.any ∙ is)));
-      on = up.on;
+      extends = up.extends;
     }
 
     module _ (none : found ≡ false) where
@@ -431,7 +431,7 @@ module _ (index : ℕ) (s : UpdateStatement) (old mid : Run) where
       none_wrote makes = record {
         wrote = nothing_wrote ∙ sym (append-nil (written old))
             ∙ ap (λ (ws : List DocumentWrite). written old ++ ws) (sym (writes_none s old.documents.items (up.any ∙ none) makes));
-        on = up.on;
+        extends = up.extends;
       }
 
       -- it makes one
@@ -439,4 +439,4 @@ module _ (index : ℕ) (s : UpdateStatement) (old mid : Run) where
           → Wrote r (statement_writes s old.documents.items) old new
       upsert_wrote makes r new later =
           subst (λ (ws : List DocumentWrite). Wrote r ws old new) (sym (writes_upsert s old.documents.items (up.any ∙ none) makes))
-          (wrote_behind (map made_write (one_or_none (upsert_document s))) old mid new up.on nothing_wrote r later)
+          (wrote_behind (map made_write (one_or_none (upsert_document s))) old mid new up.extends nothing_wrote r later)

@@ -58,6 +58,6 @@ module _ (index : ℕ) (s : UpdateStatement) (d : Pairs) (old : Run) (is : upser
     pub upsert_wrote : IsStored d → IsDocument d → new.writes.items ≡ mid.writes.items → new.keeps_old ≡ mid.keeps_old → HasWritten upsert_writes old new
     upsert_wrote stored readable writes keeps = record {
       wrote = wrote_made d old new stored readable (writes ∙ put.writes) ∙ ap (λ (ws : List DocumentWrite). written old ++ ws) (sym its_write);
-      on = inserts_on d old mid new stored readable put documents writes keeps
+      extends = inserts_on d old mid new stored readable put documents writes keeps
           (λ none. some_upserted mid.tally.upserted new.tally.upserted entry upserted none.1);
     }

@@ -116,7 +116,7 @@ pub record RunsOn (old new : Run) : Type 0 where
 -- It wrote these.
 pub record HasWritten (ws : List DocumentWrite) (old new : Run) : Type 0 where
   pub wrote : written new ≡ written old ++ ws
-  pub on : RunsOn old new
+  pub extends : RunsOn old new
 
 -- It wrote these and was refused then.
 pub record HasStopped (ws : List DocumentWrite) (old new : Run) : Type 0 where
@@ -140,7 +140,7 @@ pub record ChangesAt (change : Change) (place : ℕ) (old new : Run) : Type 0 wh
       ≡ modified_by (document_at place old) made old.tally.modified
   pub upserted : new.tally.upserted ≡ old.tally.upserted
   pub wrote : written new ≡ written old ++ change_writes (document_at place old) made
-  pub on : RunsOn old new
+  pub extends : RunsOn old new
 
 -- The documents that match were updated; one was found, or none.
 pub record HasRun (s : UpdateStatement) (old new : Run) (found : Bool) : Type 0 where
@@ -151,10 +151,10 @@ pub record HasRun (s : UpdateStatement) (old new : Run) (found : Bool) : Type 0 
   pub any : list_any (matches s.filter) old.documents.items ≡ found
   pub wrote : written new
       ≡ written old ++ changes_of s.change (updated_by s old.documents.items)
-  pub on : RunsOn old new
+  pub extends : RunsOn old new
 
 -- An update of one was refused.
-pub record IsRefused (s : UpdateStatement) (e : Refusal) (old new : Run) : Type 0 where
+pub record IsUpdateRefused (s : UpdateStatement) (e : Refusal) (old new : Run) : Type 0 where
   pub planned : Fails refusals.OutOfMemory e
       (update_from s (none_changed (listed_of old)) old.documents.items)
   pub writes : e ≢ refusals.OutOfMemory
@@ -162,7 +162,7 @@ pub record IsRefused (s : UpdateStatement) (e : Refusal) (old new : Run) : Type 
 
 abbrev pub RunsMatching : UpdateStatement → Run → Run → Result Bool Refusal → Type 0
 RunsMatching s old new (Ok found) = HasRun s old new found
-RunsMatching s old new (Err e) = IsRefused s e old new
+RunsMatching s old new (Err e) = IsUpdateRefused s e old new
 
 -- where a document goes among others, or that one has its `_id`
 abbrev pub IsPlaceOf : Pairs → List Pairs → Option ℕ → Type 0

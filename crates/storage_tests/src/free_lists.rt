@@ -2,7 +2,7 @@
 
 use freelist::{FreeList, FreePages, ListFault, NoMemory, read_list};
 use page::{Disk, MemDisk, write_page};
-use roots::{Root, Store, list_sheets};
+use roots::{Root, Store, list_models};
 use std::alloc::Global;
 use std::test::Fail;
 
@@ -43,7 +43,7 @@ fn a_list_without_room_is_refused(rt: HostRuntime) -> Result<(), Fail> {
     let mut book = FreePages::open(rt.alloc(), &[1], 2, 5)?;
     book.retire(1, 5)?;
     assert!(rt; book.write_list(rt.alloc(), 2)?.is_none());
-    assert_eq!(rt; book.full_takes(), 1);
+    assert_eq!(rt; book.failed_allocations(), 1);
     Ok(())
 }
 
@@ -57,10 +57,10 @@ fn write_out(alloc: Global, list: &FreeList, disk: &mut MemDisk) -> Result<bool,
         free_count: 0,
     };
     let mut written = disk.write(1, &root.sector()).is_ok();
-    for sheet in &list_sheets(alloc, list, 1)? {
+    for model in &list_models(alloc, list, 1)? {
         let mut bytes = [0; 4096];
-        sheet.image().write(&mut bytes);
-        written = written && write_page(disk, sheet.image().page, &bytes).is_ok();
+        model.image().write(&mut bytes);
+        written = written && write_page(disk, model.image().page, &bytes).is_ok();
     }
     Ok(written)
 }

@@ -50,7 +50,7 @@ fn count_free(alloc: Global, pager: &mut Pager<MemDisk>, limit: u32) -> u32 {
             next: 0,
             bytes: Vec::new(alloc),
         };
-        if pager.fresh(content).is_err() {
+        if pager.allocate(content).is_err() {
             break;
         }
         count = count.saturating_add(1);
@@ -196,6 +196,6 @@ fn taken(book: &mut FreePages) -> Result<[Option<u32>; 4], NoMemory> {
 fn pinned_pages_are_not_taken(rt: HostRuntime) -> Result<(), Fail> {
     let mut book = FreePages::open(rt.alloc(), &[1, 2], 3, 5)?;
     assert_eq!(rt; taken(&mut book)?, [None, None, Some(1), None]);
-    assert_eq!(rt; (book.version(), book.full_takes()), (6, 3));
+    assert_eq!(rt; (book.version(), book.failed_allocations()), (6, 3));
     Ok(())
 }

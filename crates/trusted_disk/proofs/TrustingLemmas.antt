@@ -22,4 +22,4 @@ pub takes_back : (P : (ℕ → List ℕ) → Type 0) → TakesBack P
 takes_back P a b old new first second = search rules
 
 pub stays_trusted : StaysTrusted
-stays_trusted a b old new goes kept holds time = search rules
+stays_trusted a b old new continues kept holds time = search rules

@@ -1,7 +1,7 @@
 -- What a disk, and its history with its word only where something is true, say of each other.
 use Rattle.std.specs.Prelude.{◌≡◌, ◌↔◌, ℕ, Bool, IsTrue, List}
 use Rattle.page.specs.History.{History, KeepsWord, HasTime, LeftSince, now, reads}
-use Rattle.page.specs.Crash.{GoesOn, LeavesNow, LeavesOnly, OnlySyncs, ReadsOnly}
+use Rattle.page.specs.Crash.{ExtendsHistory, CrashLeaves, LeavesOnly, OnlySyncs, ReadsOnly}
 use Rattle.trusted_disk.specs.Trusting.{trusting}
 
 -- Its word is kept just where the disk keeps it and this is true.
@@ -27,9 +27,9 @@ TrustsAll = (b : Bool) (h : History) → IsTrue b → trusting b h ≡ h
 -- What is so of two moments of a disk is so of them under a truth value: it went on, it was only
 -- read, it was only synced, and a crash leaves only images of one kind.
 pub record PassOn (b : Bool) (old new : History) (P : (ℕ → List ℕ) → Type 0) : Type 0 where
-  pub on : GoesOn old new → GoesOn (trusting b old) (trusting b new)
+  pub extends : ExtendsHistory old new → ExtendsHistory (trusting b old) (trusting b new)
   pub only : LeavesOnly old new P → LeavesOnly (trusting b old) (trusting b new) P
-  pub here : LeavesNow new P → LeavesNow (trusting b new) P
+  pub here : CrashLeaves new P → CrashLeaves (trusting b new) P
   pub reads : ReadsOnly old new → ReadsOnly (trusting b old) (trusting b new)
   pub syncs : OnlySyncs old new → OnlySyncs (trusting b old) (trusting b new)
 
@@ -38,9 +38,9 @@ PassesOn P = (b : Bool) (old new : History) → PassOn b old new P
 
 -- The way back, where both are true
 pub record TakeBack (a b : Bool) (old new : History) (P : (ℕ → List ℕ) → Type 0) : Type 0 where
-  pub on : GoesOn (trusting a old) (trusting b new) → GoesOn old new
+  pub extends : ExtendsHistory (trusting a old) (trusting b new) → ExtendsHistory old new
   pub only : LeavesOnly (trusting a old) (trusting b new) P → LeavesOnly old new P
-  pub here : LeavesNow (trusting b new) P → LeavesNow new P
+  pub here : CrashLeaves (trusting b new) P → CrashLeaves new P
   pub reads : ReadsOnly (trusting a old) (trusting b new) → ReadsOnly old new
   pub syncs : OnlySyncs (trusting a old) (trusting b new) → OnlySyncs old new
 
@@ -52,5 +52,5 @@ TakesBack P =
 -- on from it under any truth value keeps its word and is trusted.
 abbrev pub StaysTrusted : Type 0
 StaysTrusted =
-    (a b : Bool) (old new : History) → GoesOn (trusting a old) (trusting b new)
+    (a b : Bool) (old new : History) → ExtendsHistory (trusting a old) (trusting b new)
     → KeepsWord old → IsTrue a → HasTime new → KeepsWord new × IsTrue b

@@ -98,7 +98,7 @@ module _ {D F : Type 0} (history : D → History) (makes : F → List Pairs → 
       → ReadsOf history (AreIdsOf number passes ids) (λ now c (o : Option F). IfSome o (IsWalked passes makes walk.fold c.documents))
       (Ok (Some walked.fold)) old new
   walked_dense passes reads = record {
-    on = reads.on;
+    extends = reads.extends;
     unchanged = reads.unchanged;
     same = reads.same;
     answers = λ k start now has c asked.
@@ -118,7 +118,7 @@ pub refused_dense : {D F : Type 0} (history : D → History) (makes : F → List
     (λ now c done. IsFolded (StaysDense makes) walk (documents_within texts c.documents) done) (Err e) old new
     → ReadsOf history (AreIdsOf number passes ids) (λ now c (o : Option F). IfSome o (IsWalked passes makes walk.fold c.documents)) (Err e) old new
 refused_dense history makes walk number ids texts old new passes e reads = record {
-  on = reads.on;
+  extends = reads.extends;
   unchanged = reads.unchanged;
   same = reads.same;
   answers = λ k start now has c asked. reads.answers k start now has c asked.numbered;

@@ -177,7 +177,7 @@ module _ {D : Type 0} (history : D → History) (w : Walk) (start : Giving) (tex
       → ReadsVersion history version (λ now c. IsNumbered now c number) (λ now c done. IsFolded Gives start (documents_within texts c.documents) done) r old new
       → ReadsVersion history version (IsAskedIn number) (λ now c done. AreLent w start c.documents done) r old new
   lent_version version number reads = record {
-    on = reads.on;
+    extends = reads.extends;
     unchanged = reads.unchanged;
     same = reads.same;
     answers = λ k now has c asked. either r now c has.state asked (reads.answers k now has c asked.numbered);
@@ -194,18 +194,18 @@ module _ {D A X Y : Type 0} (history : D → History) (version : Version) (Is : 
     (Q : List Collection → A → Y → Type 0) (old new : State D) where
   pub version_memory : (e : Refusal) → e ≡ refusals.OutOfMemory → ReadsVersion history version Is Q (Err e) old old
   version_memory e is = record
-      { on = goes_itself history old; unchanged = refl; same = λ start now has. has; answers = λ k now has asked so. inl is }
+      { extends = goes_itself history old; unchanged = refl; same = λ start now has. has; answers = λ k now has asked so. inl is }
 
   pub version_refused : (e : Refusal) → ReadsVersion history version Is P (Err e) old new → ReadsVersion history version Is Q (Err e) old new
-  version_refused e reads = record { on = reads.on; unchanged = reads.unchanged; same = reads.same; answers = reads.answers }
+  version_refused e reads = record { extends = reads.extends; unchanged = reads.unchanged; same = reads.same; answers = reads.answers }
 
   pub version_on : (x : X) (r : Result Y Refusal) → ReadsVersion history version Is P (Ok x) old new
       → ((now : List Collection) (asked : A) → Is now asked → P now asked x → OrMemory (Q now asked) r) → ReadsVersion history version Is Q r old new
-  version_on x r reads on = record {
-    on = reads.on;
+  version_on x r reads extends = record {
+    extends = reads.extends;
     unchanged = reads.unchanged;
     same = reads.same;
-    answers = λ k now has asked so. or_cause r now asked (on now asked so (reads.answers k now has asked so));
+    answers = λ k now has asked so. or_cause r now asked (extends now asked so (reads.answers k now has asked so));
   }
     where
       or_cause : (s : Result Y Refusal) (now : List Collection) (asked : A) → OrMemory (Q now asked) s

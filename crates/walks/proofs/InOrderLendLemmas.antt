@@ -4,7 +4,7 @@ use Rattle.std.proofs.Common.{Option, Some, None, Result, Ok, Err}
 use Rattle.std.proofs.Common.{get_or, refl, sym, ap, subst, ◌∙◌, arith, append_assoc, append-nil}
 use Rattle.std.specs.Prelude.{All, Contains, MatchOption, MatchResult, is_some, ◌||◌}
 use Rattle.std.specs.Global.{Vec}
-use Rattle.std.specs.Ordering.{on}
+use Rattle.std.specs.Ordering.{extends}
 use Rattle.std.proofs.lemmas.List.{drop-map, length-map, take-append-drop, take_all}
 use Rattle.bson.specs.Tree.{Pairs}
 use Rattle.value_order.specs.Order.{compare}
@@ -20,7 +20,7 @@ use Rattle.entries.specs.StateReads.{find_document}
 use Rattle.entries.proofs.EntryLemmas.{id_is_key}
 use Rattle.entries.proofs.FoundLawLemmas.{found_collection, found_document}
 use Rattle.entries.proofs.MemberLemmas.{Among, among_back, among_of, contains_of, of_all}
-use Rattle.collections.specs.Calls.{GoesFrom, HasReadCause, IsUnchanged}
+use Rattle.collections.specs.Calls.{ExtendsTurn, HasReadCause, IsUnchanged}
 use Rattle.collections.specs.Reading.{IsPlaceOf, stored_at}
 use Rattle.collections.specs.Standing.{HasState}
 use Rattle.collections.specs.State.{State}
@@ -83,7 +83,7 @@ module _ (i : Definition) (ds : List Pairs) (storable : All IsStorable ds) (risi
   found_by (text ∷ texts) given = with_entry text texts (given text (inl refl)) (found_by texts (λ t g. given t (inr g)))
 
   found_one : (d : Pairs) → Among d ds → find_document ds (key_of d) ≡ Some d
-  found_one d there = (each_found ds (d ∷ []) (rises_of (on key_of compare) ds rising) at).0
+  found_one d there = (each_found ds (d ∷ []) (rises_of (extends key_of compare) ds rising) at).0
     where
       at : (x : Pairs) → Among x (d ∷ []) → Among x ds
       at x (inl e) = subst (λ (y : Pairs). Among y ds) (sym e) there
@@ -116,7 +116,7 @@ module _ {D : Type 0} (history : D → History) (version : Version) (number : �
       → MatchResult s (λ found. found ≡ Some one.document) (HasReadCause history old new)
       → MatchResult r (λ is_left. GivesOne one.document before is_left after) (HasReadCause history old new))
       → GivesIt before after r
-  by_place before after id s r told reads on =
+  by_place before after id s r told reads extends =
       version_from history version (IsPlaceOf number id) (λ now place found. found ≡ stored_at place) (IsLedIn number i text)
       (λ now one is_left. GivesOne one.document before is_left after) old new s r reads
       (λ now state one h.
@@ -126,7 +126,7 @@ module _ {D : Type 0} (history : D → History) (version : Version) (number : �
       record {
         other = record { collection = one.home; id = key_of one.document };
         was = record { numbered = h.numbered; key = id_is_key one.document storable; spelled = spelled };
-        right = λ read. on one storable spelled (at s one h.found read);
+        right = λ read. extends one storable spelled (at s one h.found read);
       })
     where
       unsome : {a b : List ℕ} → Some a ≡ Some b → a ≡ b
@@ -153,8 +153,8 @@ module _ {D : Type 0} (history : D → History) (version : Version) (number : �
     pub one_given : (document : Pairs) (r : Result Bool Refusal) → ReadsOne id (Ok (Some document))
         → (IsStorable document → id ≡ id_text_of document → MatchResult r (λ is_left. GivesOne document before is_left after) (λ e. e ≡ refusals.OutOfMemory))
         → GivesIt before after r
-    one_given document r reads on =
-        by_place before after id (Ok (Some document)) r told reads (λ one storable spelled same. at r one storable spelled (is_one same) on)
+    one_given document r reads extends =
+        by_place before after id (Ok (Some document)) r told reads (λ one storable spelled same. at r one storable spelled (is_one same) extends)
       where
         is_one : {x y : Pairs} → Some x ≡ Some y → x ≡ y
         is_one e = cc
@@ -163,17 +163,17 @@ module _ {D : Type 0} (history : D → History) (version : Version) (number : �
             → (IsStorable document → id ≡ id_text_of document
             → MatchResult q (λ is_left. GivesOne document before is_left after) (λ e. e ≡ refusals.OutOfMemory))
             → MatchResult q (λ is_left. GivesOne one.document before is_left after) (HasReadCause history old new)
-        at (Ok is_left) one storable spelled same on =
+        at (Ok is_left) one storable spelled same extends =
             subst (λ (d : Pairs). GivesOne d before is_left after) same
-            (on (subst IsStorable (sym same) storable) (spelled ∙ ap id_text_of (sym same)))
-        at (Err e) one storable spelled same on = inl (on (subst IsStorable (sym same) storable) (spelled ∙ ap id_text_of (sym same)))
+            (extends (subst IsStorable (sym same) storable) (spelled ∙ ap id_text_of (sym same)))
+        at (Err e) one storable spelled same extends = inl (extends (subst IsStorable (sym same) storable) (spelled ∙ ap id_text_of (sym same)))
 
 -- An entry tells an `_id`.
 pub one_told : {D : Type 0} (history : D → History) (version : Version) (number : ℕ) (i : Definition) (text : List ℕ) (old : State D) (before after : Giving)
     (e : Refusal) → id_text i.fields text ≡ None
     → ReadsVersion history version (IsLedIn number i text) (λ now one is_left. GivesOne one.document before is_left after) (Err e) old old
 one_told history version number i text old before after e none = record {
-  on = goes_itself history old;
+  extends = goes_itself history old;
   unchanged = refl;
   same = λ start now has. has;
   answers = λ k now has one h. absurd (no (sym none ∙ h.told));
@@ -212,7 +212,7 @@ module _ {D : Type 0} (history : D → History) (version : Version) (number : �
 
   -- The documents before this one were lent, and none is left.
   pub record HasLent (now : State D) (k : ℕ) (giving : Giving) : Type 0 where
-    pub on : GoesFrom history start now
+    pub extends : ExtendsTurn history start now
     pub unchanged : IsUnchanged history start now
     pub same : (s t : List Collection) → HasState history start s t → HasState history now s t
     pub none : giving.next ≡ None
@@ -222,7 +222,7 @@ module _ {D : Type 0} (history : D → History) (version : Version) (number : �
 
   pub none_lent : begun.next ≡ None → HasLent start 0 begun
   none_lent none = record {
-    on = goes_itself history start;
+    extends = goes_itself history start;
     unchanged = refl;
     same = λ s t has. has;
     none = none;
@@ -234,7 +234,7 @@ module _ {D : Type 0} (history : D → History) (version : Version) (number : �
   pub lent_over : (now : State D) (k : ℕ) (giving : Giving) → HasLent now k giving → is_over giving ≡ true
       → ReadsVersion history version Asks (Lends giving) (Ok None) start now
   lent_over now k giving come over = record {
-    on = come.on;
+    extends = come.extends;
     unchanged = come.unchanged;
     same = come.same;
     answers = λ word cs has chosen asks. record {
@@ -250,7 +250,7 @@ module _ {D : Type 0} (history : D → History) (version : Version) (number : �
   pub lent_all : (now : State D) (k : ℕ) (giving : Giving) → HasLent now k giving → length texts ≤ k
       → ReadsVersion history version Asks (Lends giving) (Ok None) start now
   lent_all now k giving come past = record {
-    on = come.on;
+    extends = come.extends;
     unchanged = come.unchanged;
     same = come.same;
     answers = λ word cs has chosen asks.
@@ -293,21 +293,21 @@ module _ {D : Type 0} (history : D → History) (version : Version) (number : �
           };
         }
 
-    reaches : GoesFrom history now new → GoesFrom history start new
-    reaches goes = goes_on history start now new come.on goes
+    reaches : ExtendsTurn history now new → ExtendsTurn history start new
+    reaches continues = goes_on history start now new come.extends continues
 
     pub lends_it : Read (Ok false) → next.next ≡ None → (IsOpen giving.batch → IsOpen next.batch) → HasLent new (k + 1) next
     lends_it reads none some = record {
-      on = reaches reads.on;
+      extends = reaches reads.extends;
       unchanged = reads.unchanged ∙ come.unchanged;
       same = λ s t has. reads.same s t (come.same s t has);
       none = none;
       some = λ h. some (come.some h);
       there = λ word cs has chosen asks s all h.
           let t : IsTurnOf cs chosen = turn_of cs chosen asks in
-          let one = reads.answers word cs (versions_stay history start now come.on version cs has)
+          let one = reads.answers word cs (versions_stay history start now come.extends version cs has)
           (record { home = chosen.home; document = t.document }) t.stored in
-          let before = come.there (word_before history now new reads.on word) cs has chosen asks s all h in
+          let before = come.there (word_before history now new reads.extends word) cs has chosen asks s all h in
           subst (λ (ds : List Pairs). Gives s ds next)
           (append_assoc all (take k chosen.documents) (t.document ∷ [])
           ∙ ap (λ (ds : List Pairs). all ++ ds) (sym (take_next k chosen.documents t.document t.behind t.at)
@@ -321,16 +321,16 @@ module _ {D : Type 0} (history : D → History) (version : Version) (number : �
     -- there is no room for it
     pub lends_no_more : (left : Vec ℕ) → left.items ≡ text → Read (Ok true) → ReadsVersion history version Asks (Lends next) (Ok (Some left)) start new
     lends_no_more left left_is reads = record {
-      on = reaches reads.on;
+      extends = reaches reads.extends;
       unchanged = reads.unchanged ∙ come.unchanged;
       same = λ s t has. reads.same s t (come.same s t has);
       answers = λ word cs has chosen asks.
           let t : IsTurnOf cs chosen = turn_of cs chosen asks in
-          let one = reads.answers word cs (versions_stay history start now come.on version cs has)
+          let one = reads.answers word cs (versions_stay history start now come.extends version cs has)
           (record { home = chosen.home; document = t.document }) t.stored in
           record {
             gives = λ s all h.
-                let before = come.there (word_before history now new reads.on word) cs has chosen asks s all h in
+                let before = come.there (word_before history now new reads.extends word) cs has chosen asks s all h in
                 subst (λ (ds : List Pairs). Gives s ds next)
                 (append_assoc (all ++ take k chosen.documents) (t.document ∷ []) t.behind
                 ∙ append_assoc all (take k chosen.documents) (t.document ∷ t.behind)
@@ -357,20 +357,20 @@ module _ {D : Type 0} (history : D → History) (version : Version) (number : �
     -- reading it is refused
     pub lends_refused : (e : Refusal) → Read (Err e) → ReadsVersion history version Asks (Lends next) (Err e) start new
     lends_refused e reads = record {
-      on = reaches reads.on;
+      extends = reaches reads.extends;
       unchanged = reads.unchanged ∙ come.unchanged;
       same = λ s t has. reads.same s t (come.same s t has);
       answers = λ word cs has chosen asks.
           let t : IsTurnOf cs chosen = turn_of cs chosen asks in
-          widen_before history start now new come.on reads.on word e
-          (reads.answers word cs (versions_stay history start now come.on version cs has) (record { home = chosen.home; document = t.document }) t.stored);
+          widen_before history start now new come.extends reads.extends word e
+          (reads.answers word cs (versions_stay history start now come.extends version cs has) (record { home = chosen.home; document = t.document }) t.stored);
     }
 
     -- memory runs out behind it
     pub lends_memory : (b : Bool) (e : Refusal) → e ≡ refusals.OutOfMemory → Read (Ok b)
         → ReadsVersion history version Asks (Lends next) (Err e) start new
     lends_memory b e out reads = record {
-      on = reaches reads.on;
+      extends = reaches reads.extends;
       unchanged = reads.unchanged ∙ come.unchanged;
       same = λ s t has. reads.same s t (come.same s t has);
       answers = λ word cs has chosen asks. inl out;

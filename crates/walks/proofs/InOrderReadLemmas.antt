@@ -4,7 +4,7 @@ use Rattle.std.proofs.Common.{refl, sym, ap, subst, ◌∙◌}
 use Rattle.std.specs.Prelude.{All, IfSome, MatchOption, MatchResult, is_some, ◌||◌}
 use Rattle.std.specs.Global.{Vec}
 use Rattle.std.specs.Option.{option_map}
-use Rattle.std.specs.Ordering.{on}
+use Rattle.std.specs.Ordering.{extends}
 use Rattle.bson.specs.Tree.{Pairs}
 use Rattle.page.specs.History.{History, KeepsWord}
 use Rattle.pager.specs.declared.version.Version.{Version}
@@ -15,7 +15,7 @@ use Rattle.index.specs.View.{texts_of}
 use Rattle.entries.specs.LawfulState.{IsKept, IsLawfulState}
 use Rattle.entries.specs.State.{Collection}
 use Rattle.entries.proofs.FoundLawLemmas.{found_collection}
-use Rattle.collections.specs.Calls.{GoesFrom, HasReadCause, IsUnchanged}
+use Rattle.collections.specs.Calls.{ExtendsTurn, HasReadCause, IsUnchanged}
 use Rattle.collections.specs.IndexTexts.{AreReadNext, Indexed, IsNumberedIndex}
 use Rattle.collections.specs.Standing.{HasState}
 use Rattle.collections.specs.State.{State}
@@ -53,7 +53,7 @@ module _ {D : Type 0} (history : D → History) (version : Version) (number : �
 
   -- All entries below this one were read.
   pub record HasCome (now : State D) (from : List ℕ) (giving : Giving) : Type 0 where
-    pub on : GoesFrom history start now
+    pub extends : ExtendsTurn history start now
     pub unchanged : IsUnchanged history start now
     pub same : (s t : List Collection) → HasState history start s t → HasState history now s t
     pub none : giving.next ≡ None
@@ -63,7 +63,7 @@ module _ {D : Type 0} (history : D → History) (version : Version) (number : �
 
   pub none_come : begun.next ≡ None → (from : List ℕ) → from ≡ w.from.now → HasCome start from begun
   none_come none from is = record {
-    on = goes_itself history start;
+    extends = goes_itself history start;
     unchanged = refl;
     same = λ s t has. has;
     none = none;
@@ -76,7 +76,7 @@ module _ {D : Type 0} (history : D → History) (version : Version) (number : �
   pub come_often : (now : State D) (from : List ℕ) (giving : Giving) → HasCome now from giving
       → ReadsVersion history version (IsIndexedIn number i) (ReadsFirst giving) (Ok None) start now
   come_often now from giving come = record {
-    on = come.on;
+    extends = come.extends;
     unchanged = come.unchanged;
     same = come.same;
     answers = λ word cs has c asks s h. tt;
@@ -94,12 +94,12 @@ module _ {D : Type 0} (history : D → History) (version : Version) (number : �
     pub next_refused : (e : Refusal) (new_giving : Giving) → Next (Err e)
         → ReadsVersion history version (IsIndexedIn number i) (ReadsFirst new_giving) (Err e) start mid
     next_refused e new_giving reads = record {
-      on = goes_on history start now mid come.on reads.on;
+      extends = goes_on history start now mid come.extends reads.extends;
       unchanged = reads.unchanged ∙ come.unchanged;
       same = λ s t has. reads.same s t (come.same s t has);
       answers = λ word cs has c asks.
-          widen_before history start now mid come.on reads.on word e
-          (reads.answers word cs (versions_stay history start now come.on version cs has) (index_of c) (asked_index cs c asks));
+          widen_before history start now mid come.extends reads.extends word e
+          (reads.answers word cs (versions_stay history start now come.extends version cs has) (index_of c) (asked_index cs c asks));
     }
 
     module _ (new : State D) (new_giving : Giving) (found : NextTexts) (read : Next (Ok found)) where
@@ -126,7 +126,7 @@ module _ {D : Type 0} (history : D → History) (version : Version) (number : �
       }
         where
           told : AreReadNext from w.last.now limit (index_of c) (option_map (λ v. v.items) found.next) texts
-          told = read.answers word cs (versions_stay history start now come.on version cs has) (index_of c) (asked_index cs c asks)
+          told = read.answers word cs (versions_stay history start now come.extends version cs has) (index_of c) (asked_index cs c asks)
 
           kept : IsKept c
           kept = (found_collection cs c.name c has.state asks.numbered.found).0
@@ -134,18 +134,18 @@ module _ {D : Type 0} (history : D → History) (version : Version) (number : �
           led : (documents : List Pairs) × AreLed i c.documents texts documents
           led = led_documents i c.documents kept.storable kept.rising texts (λ text h. (told.told.given text h).0)
 
-      goes_mid : GoesFrom history start mid
-      goes_mid = goes_on history start now mid come.on read.on
+      goes_mid : ExtendsTurn history start mid
+      goes_mid = goes_on history start now mid come.extends read.extends
 
       -- lending is refused
       pub lending_refused : (e : Refusal) → Lent (Err e) → ReadsVersion history version (IsIndexedIn number i) (ReadsFirst new_giving) (Err e) start new
       lending_refused e lent = record {
-        on = goes_on history start mid new goes_mid lent.on;
+        extends = goes_on history start mid new goes_mid lent.extends;
         unchanged = lent.unchanged ∙ read.unchanged ∙ come.unchanged;
         same = λ s t has. lent.same s t (read.same s t (come.same s t has));
         answers = λ word cs has c asks.
-            let r : IsRead c cs = is_read (word_before history mid new lent.on word) cs has c asks in
-            widen_before history start mid new goes_mid lent.on word e
+            let r : IsRead c cs = is_read (word_before history mid new lent.extends word) cs has c asks in
+            widen_before history start mid new goes_mid lent.extends word e
             (lent.answers word cs (versions_stay history start mid goes_mid version cs has) (record { home = c; documents = r.documents }) r.asks);
       }
 
@@ -154,24 +154,24 @@ module _ {D : Type 0} (history : D → History) (version : Version) (number : �
         module _ (word : KeepsWord (disk_history history new)) (cs : List Collection) (has : HasVersion history start version cs) (c : Collection)
             (asks : IsIndexedIn number i cs c) (s : Giving) (h : Gives s [] begun) where
           mid_word : KeepsWord (disk_history history mid)
-          mid_word = word_before history mid new lent.on word
+          mid_word = word_before history mid new lent.extends word
 
           r : IsRead c cs
           r = is_read mid_word cs has c asks
 
           before : HasReadBelow s giving w.from.now from (index_of c)
-          before = come.there (word_before history now mid read.on mid_word) cs has c asks s h
+          before = come.there (word_before history now mid read.extends mid_word) cs has c asks s h
 
           given : GivesLed i texts r.documents giving new_giving left
           given = lent.answers word cs (versions_stay history start mid goes_mid version cs has) (record { home = c; documents = r.documents }) r.asks
 
         pub come_on : is_over new_giving ≡ false → (t : Vec ℕ) → found.next ≡ Some t
             → (IsOpen giving.batch → IsOpen new_giving.batch) → HasCome new t.items new_giving
-        come_on goes t is some_there = record {
-          on = goes_on history start mid new goes_mid lent.on;
+        come_on continues t is some_there = record {
+          extends = goes_on history start mid new goes_mid lent.extends;
           unchanged = lent.unchanged ∙ read.unchanged ∙ come.unchanged;
           same = λ s t has. lent.same s t (read.same s t (come.same s t has));
-          none = none_left new_giving.next new_giving.batch.count goes;
+          none = none_left new_giving.next new_giving.batch.count continues;
           some = λ h. some_there (come.some h);
           there = λ word cs has c asks s h.
               read_on s giving new_giving w.from.now w.last.now from limit (index_of c) (option_map (λ v. v.items) found.next) texts
@@ -186,7 +186,7 @@ module _ {D : Type 0} (history : D → History) (version : Version) (number : �
         pub come_over : is_over new_giving ≡ true
             → ReadsVersion history version (IsIndexedIn number i) (ReadsFirst new_giving) (Ok (Some left)) start new
         come_over over = record {
-          on = goes_on history start mid new goes_mid lent.on;
+          extends = goes_on history start mid new goes_mid lent.extends;
           unchanged = lent.unchanged ∙ read.unchanged ∙ come.unchanged;
           same = λ s t has. lent.same s t (read.same s t (come.same s t has));
           answers = λ word cs has c asks s h.
@@ -197,13 +197,13 @@ module _ {D : Type 0} (history : D → History) (version : Version) (number : �
 
         pub come_to_end : is_over new_giving ≡ false → found.next ≡ None
             → ReadsVersion history version (IsIndexedIn number i) (ReadsFirst new_giving) (Ok (Some None)) start new
-        come_to_end goes is = record {
-          on = goes_on history start mid new goes_mid lent.on;
+        come_to_end continues is = record {
+          extends = goes_on history start mid new goes_mid lent.extends;
           unchanged = lent.unchanged ∙ read.unchanged ∙ come.unchanged;
           same = λ s t has. lent.same s t (read.same s t (come.same s t has));
           answers = λ word cs has c asks s h.
               let g = given word cs has c asks s h in
-              subst (HasReadFirst s new_giving w.from.now w.last.now (index_of c)) (none_told new_giving.next new_giving.batch.count goes left g.left)
+              subst (HasReadFirst s new_giving w.from.now w.last.now (index_of c)) (none_told new_giving.next new_giving.batch.count continues left g.left)
               (read_all s giving new_giving w.from.now w.last.now from limit (index_of c) (option_map (λ v. v.items) found.next) texts
               (r word cs has c asks s h).documents left (before word cs has c asks s h) (r word cs has c asks s h).told.told
               (r word cs has c asks s h).led g (r word cs has c asks s h).told.few (ap (option_map (λ v. v.items)) is));
@@ -233,10 +233,10 @@ module _ {D : Type 0} (history : D → History) (version : Version) (number : �
       → ((now : List Collection) → IsLawfulState now → (o : Sorted) → IsOrderedIn number w now o
       → MatchResult s (FirstRead now o.home) (HasReadCause history old new)
       → MatchResult r (λ found. IfSome found (IsOrderedBatch o.sort w asked o.home.documents)) (HasReadCause history old new)) → ReadsBatch r
-  from_entries s r reads on =
+  from_entries s r reads extends =
       version_from history version (IsIndexedIn number w.index.now) FirstRead (IsOrderedIn number w)
       (λ now o (found : Option GivenBatch). IfSome found (IsOrderedBatch o.sort w asked o.home.documents)) old new s r reads
-      (λ now state o asks. record { other = o.home; was = asks.indexed; right = on now state o asks })
+      (λ now state o asks. record { other = o.home; was = asks.indexed; right = extends now state o asks })
 
   -- reading them was refused
   pub entries_refused : (e : Refusal) → ReadsEntries (Err e) → ReadsBatch (Err e)

@@ -17,7 +17,7 @@ use Rattle.entries.specs.State.{Collection, key_of}
 use Rattle.entries.specs.StateReads.{find_document}
 use Rattle.entries.proofs.EntryLemmas.{id_is_key}
 use Rattle.entries.proofs.FoundLawLemmas.{found_collection, found_document}
-use Rattle.collections.specs.Calls.{GoesFrom, HasReadCause, IsUnchanged}
+use Rattle.collections.specs.Calls.{ExtendsTurn, HasReadCause, IsUnchanged}
 use Rattle.collections.specs.Reading.{IsPlaceOf, Place, stored_at}
 use Rattle.collections.specs.Standing.{HasState}
 use Rattle.collections.specs.State.{State}
@@ -50,12 +50,12 @@ pub version_from : {D A B X Y : Type 0} (history : D → History) (version : Ver
     → ((now : List Collection) → IsLawfulState now → (asked : A) → Is now asked
     → IsBeside history old new Was P s now (MatchResult r (R now asked) (HasReadCause history old new)))
     → ReadsVersion history version Is R r old new
-version_from history version Was P Is R old new s r reads on = record {
-  on = reads.on;
+version_from history version Was P Is R old new s r reads extends = record {
+  extends = reads.extends;
   unchanged = reads.unchanged;
   same = reads.same;
   answers = λ k now has asked so.
-      let o = on now has.state asked so in
+      let o = extends now has.state asked so in
       o.right (reads.answers k now has o.other o.was);
 }
 
@@ -80,13 +80,13 @@ module _ {D : Type 0} (history : D → History) (version : Version) (number : �
   from_place : (s : Result (Option Pairs) Refusal) (r : Result Bool Refusal) → Reads s
       → ((one : Stored) → IsStorable one.document → MatchResult s (λ found. found ≡ Some one.document) (HasReadCause history old new)
       → MatchResult r (λ is_taken. IsOffered before (project p one.document) is_taken after) (HasReadCause history old new)) → Offers r
-  from_place s r reads on =
+  from_place s r reads extends =
       version_from history version (IsPlaceOf number text) (λ now place found. found ≡ stored_at place) (IsStoredIn number text)
       (λ now one is_taken. IsOffered before (project p one.document) is_taken after) old new s r reads
       (λ now state one h. record {
         other = place_of one;
         was = is_there number text now one h;
-        right = λ read. on one h.storable (at s one h.found read);
+        right = λ read. extends one h.storable (at s one h.found read);
       })
     where
       at : (q : Result (Option Pairs) Refusal) (one : Stored) → find_document one.home.documents (key_of one.document) ≡ Some one.document
@@ -150,7 +150,7 @@ module _ {D : Type 0} (history : D → History) (version : Version) (number : �
 
     -- Those before this one are in the batch.
     pub record HasOffered (now : State D) (i : ℕ) (batch : OpenBatch) : Type 0 where
-      pub on : GoesFrom history start now
+      pub extends : ExtendsTurn history start now
       pub unchanged : IsUnchanged history start now
       pub same : (s t : List Collection) → HasState history start s t → HasState history now s t
       pub some : IsOpen batch
@@ -159,7 +159,7 @@ module _ {D : Type 0} (history : D → History) (version : Version) (number : �
 
     pub begins : HasGiven begun [] → HasOffered start 0 begun
     begins empty = record {
-      on = goes_itself history start;
+      extends = goes_itself history start;
       unchanged = refl;
       same = λ s t has. has;
       some = record { ds = []; given = empty };
@@ -203,34 +203,34 @@ module _ {D : Type 0} (history : D → History) (version : Version) (number : �
             };
           }
 
-      reaches : GoesFrom history now new → GoesFrom history start new
-      reaches goes = goes_on history start now new come.on goes
+      reaches : ExtendsTurn history now new → ExtendsTurn history start new
+      reaches continues = goes_on history start now new come.extends continues
 
       pub takes_it : Read (Ok true) → (IsOpen batch → IsOpen next) → HasOffered new (i + 1) next
       takes_it reads opens = record {
-        on = reaches reads.on;
+        extends = reaches reads.extends;
         unchanged = reads.unchanged ∙ come.unchanged;
         same = λ s t has. reads.same s t (come.same s t has);
         some = opens come.some;
         there = λ k cs has chosen asks.
             let t : IsTurnOf cs chosen = turn_of cs has.state chosen asks in
-            let so_far = come.there (word_before history now new reads.on k) cs has chosen asks in
+            let so_far = come.there (word_before history now new reads.extends k) cs has chosen asks in
             goes_further begun batch next (given_of p chosen) i (project p t.document) t.behind t.at so_far
-            (reads.answers k cs (versions_stay history start now come.on version cs has) (record { home = chosen.home; document = t.document }) t.stored);
+            (reads.answers k cs (versions_stay history start now come.extends version cs has) (record { home = chosen.home; document = t.document }) t.stored);
       }
 
       -- it has no room
       pub is_full : Read (Ok false) → ReadsVersion history version Asks (λ cs chosen (_ : Unit {0}). IsWhole next cs chosen) (Ok tt) start new
       is_full reads = record {
-        on = reaches reads.on;
+        extends = reaches reads.extends;
         unchanged = reads.unchanged ∙ come.unchanged;
         same = λ s t has. reads.same s t (come.same s t has);
         answers = λ k cs has chosen asks.
             let t : IsTurnOf cs chosen = turn_of cs has.state chosen asks in
-            let so_far = come.there (word_before history now new reads.on k) cs has chosen asks in
+            let so_far = come.there (word_before history now new reads.extends k) cs has chosen asks in
             counted_so (given_of p chosen)
             (ends begun batch next (given_of p chosen) i (project p t.document) t.behind t.at so_far
-            (reads.answers k cs (versions_stay history start now come.on version cs has) (record { home = chosen.home; document = t.document }) t.stored))
+            (reads.answers k cs (versions_stay history start now come.extends version cs has) (record { home = chosen.home; document = t.document }) t.stored))
             (long_enough (given_of p chosen) (project p t.document) t.behind t.at);
       }
         where
@@ -244,20 +244,20 @@ module _ {D : Type 0} (history : D → History) (version : Version) (number : �
 
       pub fails : (e : Refusal) → Read (Err e) → ReadsVersion history version Asks (λ cs chosen (_ : Unit {0}). IsWhole next cs chosen) (Err e) start new
       fails e reads = record {
-        on = reaches reads.on;
+        extends = reaches reads.extends;
         unchanged = reads.unchanged ∙ come.unchanged;
         same = λ s t has. reads.same s t (come.same s t has);
         answers = λ k cs has chosen asks.
             let t : IsTurnOf cs chosen = turn_of cs has.state chosen asks in
-            widen_before history start now new come.on reads.on k e
-            (reads.answers k cs (versions_stay history start now come.on version cs has) (record { home = chosen.home; document = t.document }) t.stored);
+            widen_before history start now new come.extends reads.extends k e
+            (reads.answers k cs (versions_stay history start now come.extends version cs has) (record { home = chosen.home; document = t.document }) t.stored);
       }
 
     -- all were offered
     pub took_all : (now : State D) (i : ℕ) (batch : OpenBatch) → HasOffered now i batch → length texts ≤ i
         → ReadsVersion history version Asks (λ cs chosen (_ : Unit {0}). IsWhole batch cs chosen) (Ok tt) start now
     took_all now i batch come past = record {
-      on = come.on;
+      extends = come.extends;
       unchanged = come.unchanged;
       same = come.same;
       answers = λ k cs has chosen asks.

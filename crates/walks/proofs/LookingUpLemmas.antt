@@ -17,7 +17,7 @@ use Rattle.index.specs.View.{texts_of}
 use Rattle.entries.proofs.FoundLawLemmas.{found_collection}
 use Rattle.planner.specs.IdLaws.{AreIdTexts, found_by, with_found}
 use Rattle.planner.proofs.IdLemmas.{finds_by_ids}
-use Rattle.collections.specs.Calls.{GoesFrom, IsUnchanged}
+use Rattle.collections.specs.Calls.{ExtendsTurn, IsUnchanged}
 use Rattle.entries.specs.LawfulState.{IsLawfulState}
 use Rattle.collections.specs.Reading.{IsNumbered, IsPlaceOf, Place, ReadsOf, stored_at}
 use Rattle.collections.specs.Standing.{HasState, IsTurnOf}
@@ -49,7 +49,7 @@ module _ {D : Type 0} (history : D → History) (number : ℕ) (Asks : List Coll
 
   -- What is so of all documents of the collection of that number and of those that are still to be looked up.
   pub record HasLookedUp (R : List Pairs → List Pairs → Type 0) (old new : State D) (left : List (List ℕ)) : Type 0 where
-    pub on : GoesFrom history old new
+    pub extends : ExtendsTurn history old new
     pub unchanged : IsUnchanged history old new
     pub same : (start now : List Collection) → HasState history old start now → HasState history new start now
     pub there : KeepsWord (disk_history history new) → (start now : List Collection) → HasState history old start now → (c : Collection) → Asks now c
@@ -60,7 +60,7 @@ module _ {D : Type 0} (history : D → History) (number : ℕ) (Asks : List Coll
       → ((now : List Collection) → IsLawfulState now → (c : Collection) (asked : Asks now c) → R c.documents (found_by c.documents (told_by now c asked).ids))
       → HasLookedUp R old old left
   begins_so R old left running whole all = record {
-    on = goes_itself history old;
+    extends = goes_itself history old;
     unchanged = refl;
     same = λ start now has. has;
     there = λ k start now has c asked.
@@ -81,13 +81,13 @@ module _ {D : Type 0} (history : D → History) (number : ℕ) (Asks : List Coll
         (x : X) → left ≡ text ∷ rest
         → ReadsOf history (IsPlaceOf number text) (λ now place (y : X). P (stored_at place) y) (Ok x) mid new
         → ((ds more : List Pairs) (o : Option Pairs) → P o x → R ds (with_found o more) → S ds more) → HasLookedUp S old new rest
-    looks_one P S new text rest x is reads on = record {
-      on = goes_on history old mid new come.on reads.on;
+    looks_one P S new text rest x is reads extends = record {
+      extends = goes_on history old mid new come.extends reads.extends;
       unchanged = reads.unchanged ∙ come.unchanged;
       same = λ start now has. reads.same start now (come.same start now has);
       there = λ k start now has c asked.
           let at : IsLeft (R c.documents) c.documents (text ∷ rest) =
-          subst (IsLeft (R c.documents) c.documents) is (come.there (word_before history mid new reads.on k) start now has c asked) in
+          subst (IsLeft (R c.documents) c.documents) is (come.there (word_before history mid new reads.extends k) start now has c asked) in
           step c.documents at.ids at.told at.so
           (λ id key spelled. reads.answers k start now (come.same start now has) (record { collection = c; id = id })
           (record { numbered = (told_by now c asked).numbered; key = key; spelled = spelled }));
@@ -96,39 +96,44 @@ module _ {D : Type 0} (history : D → History) (number : ℕ) (Asks : List Coll
         step : (ds : List Pairs) (ids : List Tree) → AreIdTexts (text ∷ rest) ids → R ds (found_by ds ids)
             → ((id : Tree) → IsKey (value id) → text ≡ tree_text id → P (find_document ds id) x) → IsLeft (S ds) ds rest
         step ds [] told so answer = absurd told
-        step ds (id ∷ ids) told so answer = record { ids = ids; told = told.2; so = on ds (found_by ds ids) (find_document ds id) (answer id told.1 told.0) so }
+        step ds (id ∷ ids) told so answer = record {
+          ids = ids;
+          told = told.2;
+          so = extends ds (found_by ds ids) (find_document ds id)
+              (answer id told.1 told.0) so;
+        }
 
     pub fails : {X Y : Type 0} (P : List Collection → Place → Y → Type 0) (Q : List Collection → Collection → X → Type 0) (new : State D) (e : Refusal)
         (text : List ℕ) (rest : List (List ℕ)) → left ≡ text ∷ rest
         → ReadsOf history (IsPlaceOf number text) P (Err e) mid new → ReadsOf history Asks Q (Err e) old new
     fails P Q new e text rest is reads = record {
-      on = goes_on history old mid new come.on reads.on;
+      extends = goes_on history old mid new come.extends reads.extends;
       unchanged = reads.unchanged ∙ come.unchanged;
       same = λ start now has. reads.same start now (come.same start now has);
       answers = λ k start now has c asked.
           let at : IsLeft (R c.documents) c.documents (text ∷ rest) =
-          subst (IsLeft (R c.documents) c.documents) is (come.there (word_before history mid new reads.on k) start now has c asked) in
+          subst (IsLeft (R c.documents) c.documents) is (come.there (word_before history mid new reads.extends k) start now has c asked) in
           let place = next_place text rest now c asked at.ids at.told in
-          widen_before history old mid new come.on reads.on k e (reads.answers k start now (come.same start now has) place.0 place.1);
+          widen_before history old mid new come.extends reads.extends k e (reads.answers k start now (come.same start now has) place.0 place.1);
     }
 
     -- enough has come
     pub answered : {X : Type 0} (Q : List Pairs → X → Type 0) (x : X) → ((ds found : List Pairs) → R ds found → Q ds x)
         → ReadsOf history Asks (λ now c (y : X). Q c.documents y) (Ok x) old mid
-    answered Q x on = record {
-      on = come.on;
+    answered Q x extends = record {
+      extends = come.extends;
       unchanged = come.unchanged;
       same = come.same;
       answers = λ k start now has c asked.
           let at = come.there k start now has c asked in
-          on c.documents (found_by c.documents at.ids) at.so;
+          extends c.documents (found_by c.documents at.ids) at.so;
     }
 
     -- none is left
     pub ends : {X : Type 0} (Q : List Pairs → X → Type 0) (x : X) → left ≡ [] → ((ds : List Pairs) → R ds [] → Q ds x)
         → ReadsOf history Asks (λ now c (y : X). Q c.documents y) (Ok x) old mid
-    ends Q x none on = record {
-      on = come.on;
+    ends Q x none extends = record {
+      extends = come.extends;
       unchanged = come.unchanged;
       same = come.same;
       answers = λ k start now has c asked.
@@ -137,12 +142,12 @@ module _ {D : Type 0} (history : D → History) (number : ℕ) (Asks : List Coll
     }
       where
         last : (ds : List Pairs) (ids : List Tree) → AreIdTexts [] ids → R ds (found_by ds ids) → Q ds x
-        last ds [] told so = on ds so
+        last ds [] told so = extends ds so
         last ds (id ∷ ids) told so = absurd told
 
     -- memory ran out behind what was looked up
     pub forgets : {Y : Type 0} (Q : List Collection → Collection → Y → Type 0) (e : Refusal) → e ≡ refusals.OutOfMemory → ReadsOf history Asks Q (Err e) old mid
-    forgets Q e is = record { on = come.on; unchanged = come.unchanged; same = come.same; answers = λ k start now has c asked. inl is }
+    forgets Q e is = record { extends = come.extends; unchanged = come.unchanged; same = come.same; answers = λ k start now has c asked. inl is }
 
 -- ---- those that are told have among them all that are looked for
 

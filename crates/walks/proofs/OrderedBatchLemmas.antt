@@ -119,11 +119,11 @@ module _ (sort : List SortField) (w : OrderedWalk) (asked : BatchAsked) (walk : 
 
   as_given : IsBatchOf done.batch.most (batch_name done.batch.kind) asked.namespace.now asked.number (given_of_all start all) b
       → MatchOption b.next (length rest ≤ b.count) (λ text. GoesOnInOrder sort w ds b.count text.items) → IsOrderedBatch sort w asked ds b
-  as_given so goes = record {
+  as_given so continues = record {
     counted = so.counted ∙ (λ k. batch_of ((h.gives.same_most ∙ begun.same_most) k) (rest_is k));
     says = so.says
         ∙ (λ k. ok_reply (batch_reply (batch_name ((h.gives.same_kind ∙ begun.same_kind) k)) b.count (rest_is k) asked.number asked.namespace.now));
-    next = goes;
+    next = continues;
     within = window_within w.projection.now w.skip w.limit all (λ k d below. within_there (get_or all k d) (among_at all k d below));
     few = omega (
       arith,
@@ -183,7 +183,7 @@ module _ (sort : List SortField) (w : OrderedWalk) (asked : BatchAsked) (walk : 
               ∙ (λ k. map (project ((sym (begun.same_projection ∙ same_projection)) k)) (limited (sym limit_is k - b.count)
               (l.first ∷ (matching start.filter.now l.behind ++ more))))
               ∙ rest_left asked start done h.documents all b h.gives counted says id.items l is_left more split ∙ ap (drop b.count) rest_is in
-              let goes : GoesOnInOrder sort w ds b.count text.items = record {
+              let continues : GoesOnInOrder sort w ds b.count text.items = record {
                 more = omega (
                   arith,
                   others asked start done h.documents all b h.gives counted says id.items l is_left more split,
@@ -192,7 +192,7 @@ module _ (sort : List SortField) (w : OrderedWalk) (asked : BatchAsked) (walk : 
                 left = goes_on;
               } in
               as_given (one_left asked start done h.documents all b h.gives counted says id.items l is_left more split)
-              (subst (λ (o : Option (Vec ℕ)). MatchOption o (length rest ≤ b.count) (λ t. GoesOnInOrder sort w ds b.count t.items)) (sym (next ∙ e)) goes)
+              (subst (λ (o : Option (Vec ℕ)). MatchOption o (length rest ≤ b.count) (λ t. GoesOnInOrder sort w ds b.count t.items)) (sym (next ∙ e)) continues)
 
 -- ---- entries that are read a few at a time
 

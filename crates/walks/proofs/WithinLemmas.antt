@@ -67,7 +67,7 @@ module _ {D : Type 0} (history : D → History) (old new : State D) (number : �
   pub over_refused : is_within d ≡ false → {X : Type 0} (Q : List Collection → Place → X → Type 0)
       → ReadsOf history (IsPlaceOf number text) Q (Err refusals.StorageFailed) old new
   over_refused over Q = record {
-    on = reads.on;
+    extends = reads.extends;
     unchanged = reads.unchanged;
     same = reads.same;
     answers = λ k start now has place there. at (is_stopped old) refl k start now has place there;
@@ -77,7 +77,7 @@ module _ {D : Type 0} (history : D → History) (old new : State D) (number : �
           → (place : Place) → IsPlaceOf number text now place → HasReadCause history old new refusals.StorageFailed
       at true stopped k start now has place there = inr (refl, inl stopped)
       at false running k start now has place there =
-          let t : IsTurnOf history old start now = has running (word_before history old new reads.on k) in
+          let t : IsTurnOf history old start now = has running (word_before history old new reads.extends k) in
           let within = found_within now place t.now_state there (reads.answers k start now has place there) in
           let both : is_within d ≡ true = by_within d within in
           let no : true ≡ false = sym both ∙ over in

@@ -11,7 +11,7 @@ ghost use Rattle.planner.specs.IdLaws.{with_found};
 use crate::dense::fold_dense;
 use crate::scanning::Selecting;
 use crate::within::is_within;
-use asked_documents::Selects;
+use asked_documents::DocumentPredicate;
 use bson::{NoMemory, SpelledDocument};
 use collections::Collections;
 use page::Disk;
@@ -39,7 +39,7 @@ pub fn spelled_within<D: Disk>(
 }
 
 /// Puts the document that was found behind the others, if it is looked for.
-fn put_found<S: Selects>(
+fn put_found<S: DocumentPredicate>(
     alloc: Global,
     which: &S,
     found: &mut Vec<SpelledDocument>,
@@ -58,7 +58,7 @@ fn put_found<S: Selects>(
 }
 
 /// Looks one document up, and puts it behind the others, if it is looked for.
-pub fn look_up<D: Disk, S: Selects>(
+pub fn look_up<D: Disk, S: DocumentPredicate>(
     alloc: Global,
     file: &mut Collections<D>,
     number: u32,
@@ -78,7 +78,7 @@ pub fn look_up<D: Disk, S: Selects>(
 
 /// The documents of the collection of a number that are looked for and have one of these `_id`s, told by their ascending key texts:
 /// the first ones, up to so many, each looked up by itself.
-pub fn selected_one_by_one<D: Disk, S: Selects>(
+pub fn selected_one_by_one<D: Disk, S: DocumentPredicate>(
     alloc: Global,
     file: &mut Collections<D>,
     number: u32,
@@ -105,7 +105,7 @@ pub fn selected_one_by_one<D: Disk, S: Selects>(
 }
 
 /// The same by one walk from the first `_id` to the last. `None`: these are few, or lie far apart.
-fn selected_side_by_side<D: Disk, S: Selects>(
+fn selected_side_by_side<D: Disk, S: DocumentPredicate>(
     alloc: Global,
     file: &mut Collections<D>,
     number: u32,
@@ -133,7 +133,7 @@ fn selected_side_by_side<D: Disk, S: Selects>(
 
 /// The documents of the collection of a number that are looked for and have one of these `_id`s, told by their ascending key texts:
 /// the first ones, up to so many.
-pub fn selected_by_ids<D: Disk, S: Selects>(
+pub fn selected_by_ids<D: Disk, S: DocumentPredicate>(
     alloc: Global,
     file: &mut Collections<D>,
     number: u32,

@@ -8,7 +8,7 @@ ghost use Rattle.planner.specs.View.{range_of};
 ghost use Rattle.asked_documents.specs.Asking.{IsAsked};
 ghost use Rattle.walks.specs.IdRange.{IsIdRange, IsWalked, PassWithin};
 
-use asked_documents::Selects;
+use asked_documents::DocumentPredicate;
 use bson::NoMemory;
 use btree::Bounds;
 use collections::{Collections, DocumentFold};
@@ -58,7 +58,7 @@ fn span_of_ids(alloc: Global, filter: &Filter) -> Result<Option<IdSpan>, NoMemor
 }
 
 /// Between which texts all documents lie that are looked for: between all, where no filter gives a range of `_id`s.
-pub(crate) fn span_asked<S: Selects>(alloc: Global, which: &S) -> Result<IdSpan, NoMemory>
+pub(crate) fn span_asked<S: DocumentPredicate>(alloc: Global, which: &S) -> Result<IdSpan, NoMemory>
     ensures { IfOk result (λ span. PassWithin (S.selects which.now)
         span.first.items (option_map (λ v. v.items) span.end)) }
 {
@@ -75,7 +75,7 @@ pub(crate) fn span_asked<S: Selects>(alloc: Global, which: &S) -> Result<IdSpan,
 
 /// Lends documents of a collection in a file to a fold, in ascending order of `_id`, until it is done, and hands it back: all that are
 /// looked for, and others whose `_id`s lie between theirs.
-pub fn fold_asked<D: Disk, S: Selects, F: DocumentFold + Drop>(
+pub fn fold_asked<D: Disk, S: DocumentPredicate, F: DocumentFold + Drop>(
     alloc: Global,
     file: &mut Collections<D>,
     home: &Catalogued,

@@ -11,7 +11,7 @@ ghost use Rattle.walks.specs.Scanning.{Selected};
 
 use crate::id_range::fold_asked;
 use crate::within::copied_within;
-use asked_documents::Selects;
+use asked_documents::DocumentPredicate;
 use bson::{RawDoc, SpelledDocument};
 use collections::{Collections, DocumentFold};
 use entries::Catalogued;
@@ -23,7 +23,7 @@ use std::alloc::Global;
 pub const BATCH: usize = 64;
 
 /// The document, with bytes of its own, if it is looked for.
-fn selected<S: Selects>(
+fn selected<S: DocumentPredicate>(
     alloc: Global,
     which: &S,
     document: &RawDoc<'_>,
@@ -48,7 +48,7 @@ pub(crate) struct Selecting<'a, S> {
     pub(crate) found: Vec<SpelledDocument>,
 }
 
-impl<S: Selects> DocumentFold for Selecting<'_, S> {
+impl<S: DocumentPredicate> DocumentFold for Selecting<'_, S> {
     ghost makes = { Selected S.selects };
 
     fn is_done(&self) -> bool {
@@ -68,7 +68,7 @@ impl<S: Selects> DocumentFold for Selecting<'_, S> {
 }
 
 /// The documents of a collection in a file that are looked for, by a walk through it: the first ones, up to so many.
-pub fn scanned<D: Disk, S: Selects>(
+pub fn scanned<D: Disk, S: DocumentPredicate>(
     alloc: Global,
     file: &mut Collections<D>,
     home: &Catalogued,

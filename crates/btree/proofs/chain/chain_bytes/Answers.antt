@@ -1,5 +1,5 @@
 use Rattle.std.proofs.Common.{vec_len, rules, ◌≡◌, ◌∙◌, sym, ap, subst, arith, length, ◌-◌, ◌++◌}
-use Rattle.page.specs.Format.{Sheet}
+use Rattle.page.specs.Format.{PageModel}
 use Rattle.btree.specs.View.{content_in}
 use Rattle.btree.proofs.StoreLemmas.{answer_failed, cause_later, grows_same, grows_trans, same_trans}
 use Rattle.btree.proofs.ChainLemmas.{IsRead, next_page, part_long, read_on, ends}
@@ -22,7 +22,7 @@ returns-then-len-min-clause-reads g c =
     c.if-len-min.true (c.len.ensures ∙ long_is
     ∙ part_long (g.P.Pages.store c.loop-left.pages) value _ _ _ _ c.in-Chain.part.items c.loop-left-test.true
     (c.loop-left.invariant.chained links value has next long word)
-    (c.in_ok-shared.ensures.value k ∙ ap (λ (s : Sheet). s.content) (sym c.image.ensures) ∙ ap content_in c.in-Chain.is) ∙ sym c.min.ensures)
+    (c.in_ok-shared.ensures.value k ∙ ap (λ (s : PageModel). s.content) (sym c.image.ensures) ∙ ap content_in c.in-Chain.is) ∙ sym c.min.ensures)
 
 pub loop-left-preserved : goal.loop-left-preserved
 loop-left-preserved g c =
@@ -37,7 +37,7 @@ loop-left-preserved g c =
           (ap (λ zs. c.loop-left.bytes.items ++ zs) (sym c.deref.ensures.value) ∙ sym c.in_ok-extend_from_slice.ensures.items)
           (read_on (g.P.Pages.store c.loop-left.pages) (g.P.Pages.store c.read.new.self) value _ _ _ _ _ c.in-Chain.part.items
           (step.frame k) c.loop-left-test.true (c.loop-left.invariant.chained links value has next long (step.frame k).word)
-          (c.in_ok-shared.ensures.value k ∙ ap (λ (s : Sheet). s.content) (sym c.image.ensures) ∙ ap content_in c.in-Chain.is)
+          (c.in_ok-shared.ensures.value k ∙ ap (λ (s : PageModel). s.content) (sym c.image.ensures) ∙ ap content_in c.in-Chain.is)
           (ap (λ n. c.loop-left.left - n) (c.len-left.ensures ∙ long_is)));
     }
 

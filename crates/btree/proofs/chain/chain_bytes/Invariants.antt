@@ -8,7 +8,7 @@ abbrev pub invariant-loop-left : goal.invariant-loop-left
 invariant-loop-left g l = record {
   grows : Grows (g.P.Pages.store l.initial.pages) (g.P.Pages.store l.pages);
   same : KeepsWord (g.P.Pages.store l.pages) → IsSame (g.P.Pages.store l.initial.pages) (g.P.Pages.store l.pages);
-  takes : (g.P.Pages.store l.pages).full_takes ≡ (g.P.Pages.store l.initial.pages).full_takes;
+  takes : (g.P.Pages.store l.pages).failed_allocations ≡ (g.P.Pages.store l.initial.pages).failed_allocations;
   chained : (links value : List ℕ) → HasLinks (g.P.Pages.store l.initial.pages) links value → next_of links ≡ l.fn.first → length value ≡ l.fn.len
       → KeepsWord (g.P.Pages.store l.pages)
       → IsRead (g.P.Pages.store l.pages) value l.bytes.items l.left l.page;

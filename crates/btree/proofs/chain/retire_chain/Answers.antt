@@ -1,5 +1,5 @@
 use Rattle.std.proofs.Common.{◌∙◌, sym, ap, arith, length, refl}
-use Rattle.page.specs.Format.{Sheet}
+use Rattle.page.specs.Format.{PageModel}
 use Rattle.btree.specs.View.{content_in}
 use Rattle.btree.proofs.StoreLemmas.{answer_failed, cause_later, grows_failed, grows_itself, grows_retired, grows_same, grows_trans}
 use Rattle.btree.proofs.ChainLemmas.{next_retired, retiring, retired_on, not_chain, other_kind}
@@ -32,7 +32,7 @@ returns-in_default g c =
       retires = λ links value has next long k.
           not_chain (g.P.Pages.store c.args.pages.now) (g.P.Pages.store c.loop-left.pages) links _ _ _ c.loop-left-test.true
           (c.loop-left.invariant.chained links value has next long (c.in_ok-shared.ensures.same k).word)
-          (c.in_ok-shared.ensures.value k ∙ ap (λ (s : Sheet). s.content) (sym c.image.ensures)) (other_kind _ c.in_default.not-Chain);
+          (c.in_ok-shared.ensures.value k ∙ ap (λ (s : PageModel). s.content) (sym c.image.ensures)) (other_kind _ c.in_default.not-Chain);
     }
 
 pub returns-in_err-retire-clause-grows : goal.returns-in_err-retire-clause-grows
@@ -69,7 +69,7 @@ loop-left-preserved g c =
           (g.P.Pages.store c.retire.new.self) links _ _ _ _ c.in-Chain.bytes.items (step.frame gone.frame.word)
           (c.in_ok-shared.ensures.same gone.frame.word) gone c.loop-left-test.true
           (c.loop-left.invariant.chained links value has next long (step.frame gone.frame.word).word)
-          (c.in_ok-shared.ensures.value gone.frame.word ∙ ap (λ (s : Sheet). s.content) (sym c.image.ensures)
+          (c.in_ok-shared.ensures.value gone.frame.word ∙ ap (λ (s : PageModel). s.content) (sym c.image.ensures)
           ∙ ap content_in c.in-Chain.is) c.saturating_sub-left.ensures;
     }
 

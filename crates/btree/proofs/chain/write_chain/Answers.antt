@@ -10,11 +10,11 @@ pub loop-left-preserved : goal.loop-left-preserved
 loop-left-preserved g c =
     record {
       grows = grows_trans _ _ _ c.loop-left.invariant.grows
-          (grows_made (g.P.Pages.store c.loop-left.pages) (g.P.Pages.store c.fresh.new.self) _ _ c.in_ok-next.ensures.stays c.in_ok-next.ensures.makes);
+          (grows_made (g.P.Pages.store c.loop-left.pages) (g.P.Pages.store c.allocate.new.self) _ _ c.in_ok-next.ensures.stays c.in_ok-next.ensures.makes);
       room = omega arith;
       written = λ k.
           let made = c.in_ok-next.ensures.makes k in
-          chained_on (g.P.Pages.store c.args.pages.now) (g.P.Pages.store c.loop-left.pages) (g.P.Pages.store c.fresh.new.self)
+          chained_on (g.P.Pages.store c.args.pages.now) (g.P.Pages.store c.loop-left.pages) (g.P.Pages.store c.allocate.new.self)
           (drop (4076 * (c.loop-left.left - 1)) c.args.value.now)
           (drop (4076 * c.loop-left.left) c.args.value.now) c.in_ok-bytes.bytes.items _ _ (c.loop-left.invariant.written made.frame.word) made
           (some_left c.args.value.now c.loop-left.left c.loop-left.invariant.room c.loop-left-test.true)
@@ -33,7 +33,7 @@ pub returns-in_err-next-clause-few : goal.returns-in_err-next-clause-few
 returns-in_err-next-clause-few g c =
     λ long k.
     let f = c.in_err-next.ensures.makes k in
-    same_few (g.P.Pages.store c.args.pages.now) (g.P.Pages.store c.loop-left.pages) (g.P.Pages.store c.fresh.new.self) (chain_pages c.args.value.now)
+    same_few (g.P.Pages.store c.args.pages.now) (g.P.Pages.store c.loop-left.pages) (g.P.Pages.store c.allocate.new.self) (chain_pages c.args.value.now)
     (chain_few (g.P.Pages.store c.args.pages.now) (g.P.Pages.store c.loop-left.pages) c.args.value.now
     (drop (4076 * c.loop-left.left) c.args.value.now) _ long (omega (arith, length-drop (4076 * c.loop-left.left) c.args.value.now))
     (c.loop-left.invariant.written f.same.word)) f.same
@@ -47,4 +47,4 @@ returns-clause-few g c =
 pub returns-in_err-next-clause-grows : goal.returns-in_err-next-clause-grows
 returns-in_err-next-clause-grows g c =
     grows_trans _ _ _ c.loop-left.invariant.grows
-    (grows_failed (g.P.Pages.store c.loop-left.pages) (g.P.Pages.store c.fresh.new.self) _ c.in_err-next.ensures.stays c.in_err-next.ensures.makes)
+    (grows_failed (g.P.Pages.store c.loop-left.pages) (g.P.Pages.store c.allocate.new.self) _ c.in_err-next.ensures.stays c.in_err-next.ensures.makes)

@@ -1,8 +1,8 @@
 use Rattle.std.proofs.Common.{◌≡◌, ◌∙◌, ◌++◌, suc, ap, refl, sym, subst, arith, rules, append-nil, length, inr}
 use Rattle.std.specs.Option.{option_map}
-use Rattle.page.specs.Content.{Arm}
-use Rattle.page.specs.Format.{Sheet}
-use Rattle.btree.specs.Tree.{Body, arm_of, entries_of}
+use Rattle.page.specs.Content.{Pivot}
+use Rattle.page.specs.Format.{PageModel}
+use Rattle.btree.specs.Tree.{Body, pivot_of, entries_of}
 use Rattle.btree.specs.View.{content_in}
 use Rattle.btree.specs.Calls.{IsAnswer}
 use Rattle.btree.specs.Fold.{between}
@@ -22,7 +22,7 @@ pub returns-then-not-lies_between-clause-folds : goal.returns-then-not-lies_betw
 returns-then-not-lies_between-clause-folds g t c =
     λ start all d body part made k.
     not_between (g.P.Pages.store c.args.pages.now) _ _ _ _ _ _
-    (c.in_ok-shared.ensures.value k ∙ ap (λ (s : Sheet). s.content) (sym c.image.ensures)) c.lies_between.ensures c.if-not-lies_between.true d body part
+    (c.in_ok-shared.ensures.value k ∙ ap (λ (s : PageModel). s.content) (sym c.image.ensures)) c.lies_between.ensures c.if-not-lies_between.true d body part
 
 pub returns-in-Leaf-clause-folds : goal.returns-in-Leaf-clause-folds
 returns-in-Leaf-clause-folds g t c =
@@ -31,7 +31,7 @@ returns-in-Leaf-clause-folds g t c =
     scan_leaf_below (g.P.Pages.store c.args.pages.now) (g.P.Pages.store c.read.new.self) (g.P.Pages.store c.fold_leaf.new.pages) c.args.page c.args.level _ _ _
     (λ es. g.F.Fold.makes start (all ++ between c.args.bounds es) c.fold_leaf.new.fold) _
     (frame_same (g.P.Pages.store c.args.pages.now) (g.P.Pages.store c.read.new.self) (c.in_ok-shared.ensures.same w))
-    (c.in_ok-shared.ensures.value w ∙ ap (λ (s : Sheet). s.content) (sym c.image-2.ensures) ∙ ap content_in c.in-Leaf.is)
+    (c.in_ok-shared.ensures.value w ∙ ap (λ (s : PageModel). s.content) (sym c.image-2.ensures) ∙ ap content_in c.in-Leaf.is)
     (λ pairs e rise shown. c.fold_leaf.ensures.folds start all pairs e rise shown made k) d body part
 
 pub returns-then-len-eq0-clause-folds : goal.returns-then-len-eq0-clause-folds
@@ -39,7 +39,7 @@ returns-then-len-eq0-clause-folds g t c =
     λ start all d body part made k.
     let none : length c.in-Branch.branch ≡ 0 = search rules in
     too_deep (g.P.Pages.store c.args.pages.now) _ _ _ _ _
-    (c.in_ok-shared.ensures.value k ∙ ap (λ (s : Sheet). s.content) (sym c.image-2.ensures) ∙ ap content_in c.in-Branch.is) (inr none) d body part
+    (c.in_ok-shared.ensures.value k ∙ ap (λ (s : PageModel). s.content) (sym c.image-2.ensures) ∙ ap content_in c.in-Branch.is) (inr none) d body part
 
 pub loop-i-init : goal.loop-i-init
 loop-i-init g t c =
@@ -47,10 +47,10 @@ loop-i-init g t c =
       grows = grows_itself (g.P.Pages.store c.read.new.self);
       same = same_itself (g.P.Pages.store c.read.new.self);
       takes = refl;
-      made = λ start all d twigs e part made k. subst (λ es. g.F.Fold.makes start es c.args.fold.now)
+      made = λ start all d subtrees e part made k. subst (λ es. g.F.Fold.makes start es c.args.fold.now)
           (sym (append-nil all)
           ∙ ap (λ es. all ++ es)
-          (sym (none_before (g.P.Pages.store c.read.new.self) c.args.page c.args.level d c.args.low.now (option_map (λ b. b.now) c.args.high) twigs _ e part
+          (sym (none_before (g.P.Pages.store c.read.new.self) c.args.page c.args.level d c.args.low.now (option_map (λ b. b.now) c.args.high) subtrees _ e part
           c.args.bounds.from.now (option_map (λ b. b.now) c.args.bounds.to) c.child_of_key-i.result c.child_of_key-i.ensures))) made;
       lent = λ start h. h;
     }
@@ -60,18 +60,18 @@ returns-then-is_done-clause-folds g t c =
     λ start all d body part made k.
     let w = (c.loop-i.invariant.grows.frame k).word in
     at_branch (g.P.Pages.store c.args.pages.now) (g.P.Pages.store c.read.new.self) c.args.page c.args.level _ _ c.in-Branch.branch
-    (c.in_ok-shared.ensures.value w ∙ ap (λ (s : Sheet). s.content) (sym c.image-2.ensures) ∙ ap content_in c.in-Branch.is)
+    (c.in_ok-shared.ensures.value w ∙ ap (λ (s : PageModel). s.content) (sym c.image-2.ensures) ∙ ap content_in c.in-Branch.is)
     (frame_same (g.P.Pages.store c.args.pages.now) (g.P.Pages.store c.read.new.self) (c.in_ok-shared.ensures.same w))
     (λ d body. g.F.Fold.makes start (all ++ between c.args.bounds (entries_of d body)) c.loop-i.fold)
-    (λ d twigs e p.
+    (λ d subtrees e p.
     let here = child_here (g.P.Pages.store c.read.new.self) c.args.page c.args.level d c.args.low.now
-    (option_map (λ b. b.now) c.args.high) twigs _ e p c.loop-i.i _ _ _ (omega (arith, c.loop-i-test.true))
+    (option_map (λ b. b.now) c.args.high) subtrees _ e p c.loop-i.i _ _ _ (omega (arith, c.loop-i-test.true))
     (bounds_are _ _ _ _ _ _ c.low_bound-from.ensures.first c.low_bound-from.ensures.later c.high_bound-to.ensures.last c.high_bound-to.ensures.inner)
-    (λ a. sym (ap (λ (x : Arm). x.child) (c.branch_child-child.ensures a))) in
+    (λ a. sym (ap (λ (x : Pivot). x.child) (c.branch_child-child.ensures a))) in
     subst (λ es. g.F.Fold.makes start es c.loop-i.fold)
-    (child_rest (g.P.Pages.store c.read.new.self) c.args.level d twigs c.loop-i.i _ _ c.args.bounds.from.now _
+    (child_rest (g.P.Pages.store c.read.new.self) c.args.level d subtrees c.loop-i.i _ _ c.args.bounds.from.now _
     (option_map (λ b. b.now) c.args.bounds.to) here all)
-    (c.is_done.ensures c.if-is_done.true start _ _ (c.loop-i.invariant.made start all d twigs e p made k)))
+    (c.is_done.ensures c.if-is_done.true start _ _ (c.loop-i.invariant.made start all d subtrees e p made k)))
     d body part
 
 pub returns-then-not-is_within-clause-folds : goal.returns-then-not-is_within-clause-folds
@@ -79,17 +79,17 @@ returns-then-not-is_within-clause-folds g t c =
     λ start all d body part made k.
     let w = (c.loop-i.invariant.grows.frame k).word in
     at_branch (g.P.Pages.store c.args.pages.now) (g.P.Pages.store c.read.new.self) c.args.page c.args.level _ _ c.in-Branch.branch
-    (c.in_ok-shared.ensures.value w ∙ ap (λ (s : Sheet). s.content) (sym c.image-2.ensures) ∙ ap content_in c.in-Branch.is)
+    (c.in_ok-shared.ensures.value w ∙ ap (λ (s : PageModel). s.content) (sym c.image-2.ensures) ∙ ap content_in c.in-Branch.is)
     (frame_same (g.P.Pages.store c.args.pages.now) (g.P.Pages.store c.read.new.self) (c.in_ok-shared.ensures.same w))
     (λ d body. g.F.Fold.makes start (all ++ between c.args.bounds (entries_of d body)) c.loop-i.fold)
-    (λ d twigs e p.
+    (λ d subtrees e p.
     let here = child_here (g.P.Pages.store c.read.new.self) c.args.page c.args.level d c.args.low.now
-    (option_map (λ b. b.now) c.args.high) twigs _ e p c.loop-i.i _ _ _ (omega (arith, c.loop-i-test.true))
+    (option_map (λ b. b.now) c.args.high) subtrees _ e p c.loop-i.i _ _ _ (omega (arith, c.loop-i-test.true))
     (bounds_are _ _ _ _ _ _ c.low_bound-from.ensures.first c.low_bound-from.ensures.later c.high_bound-to.ensures.last c.high_bound-to.ensures.inner)
-    (λ a. sym (ap (λ (x : Arm). x.child) (c.branch_child-child.ensures a))) in
+    (λ a. sym (ap (λ (x : Pivot). x.child) (c.branch_child-child.ensures a))) in
     subst (λ es. g.F.Fold.makes start es c.loop-i.fold)
-    (child_past (g.P.Pages.store c.read.new.self) c.args.level d twigs c.loop-i.i _ _ c.args.bounds.from.now _
-    (option_map (λ b. b.now) c.args.bounds.to) here all c.if-not-is_within.ensures) (c.loop-i.invariant.made start all d twigs e p made k))
+    (child_past (g.P.Pages.store c.read.new.self) c.args.level d subtrees c.loop-i.i _ _ c.args.bounds.from.now _
+    (option_map (λ b. b.now) c.args.bounds.to) here all c.if-not-is_within.ensures) (c.loop-i.invariant.made start all d subtrees e p made k))
     d body part
 
 pub returns-in_err-fold_below-clause-folds : goal.returns-in_err-fold_below-clause-folds
@@ -98,21 +98,21 @@ returns-in_err-fold_below-clause-folds g t c =
     let v = (c.in_err-fold_below.ensures.grows.frame k).word in
     let w = (c.loop-i.invariant.grows.frame v).word in
     at_branch (g.P.Pages.store c.args.pages.now) (g.P.Pages.store c.read.new.self) c.args.page c.args.level _ _ c.in-Branch.branch
-    (c.in_ok-shared.ensures.value w ∙ ap (λ (s : Sheet). s.content) (sym c.image-2.ensures) ∙ ap content_in c.in-Branch.is)
+    (c.in_ok-shared.ensures.value w ∙ ap (λ (s : PageModel). s.content) (sym c.image-2.ensures) ∙ ap content_in c.in-Branch.is)
     (frame_same (g.P.Pages.store c.args.pages.now) (g.P.Pages.store c.read.new.self) (c.in_ok-shared.ensures.same w))
     (λ d body. IsAnswer (g.P.Pages.store c.args.pages.now) (g.P.Pages.store c.fold_below.new.pages)
     (λ done. g.F.Fold.makes start (all ++ between c.args.bounds (entries_of d body)) c.fold_below.new.fold) c.from_residual-in_err-fold_below.result)
-    (λ d twigs e p.
+    (λ d subtrees e p.
     let here = child_here (g.P.Pages.store c.read.new.self) c.args.page c.args.level d c.args.low.now
-    (option_map (λ b. b.now) c.args.high) twigs _ e p c.loop-i.i _ _ _ (omega (arith, c.loop-i-test.true))
+    (option_map (λ b. b.now) c.args.high) subtrees _ e p c.loop-i.i _ _ _ (omega (arith, c.loop-i-test.true))
     (bounds_are _ _ _ _ _ _ c.low_bound-from.ensures.first c.low_bound-from.ensures.later c.high_bound-to.ensures.last c.high_bound-to.ensures.inner)
-    (λ a. sym (ap (λ (x : Arm). x.child) (c.branch_child-child.ensures a))) in
+    (λ a. sym (ap (λ (x : Pivot). x.child) (c.branch_child-child.ensures a))) in
     let grows = frame_trans (g.P.Pages.store c.args.pages.now) (g.P.Pages.store c.read.new.self) (g.P.Pages.store c.loop-i.pages)
     (frame_same (g.P.Pages.store c.args.pages.now) (g.P.Pages.store c.read.new.self) (c.in_ok-shared.ensures.same w)) (c.loop-i.invariant.grows.frame v) in
     scan_failed (g.P.Pages.store c.args.pages.now) (g.P.Pages.store c.loop-i.pages)
     (g.P.Pages.store c.fold_below.new.pages) _ _ _ grows c.from_residual-in_err-fold_below.ensures.1
     (c.in_err-fold_below.ensures.folds start _ d here.body (part_kept _ _ (c.loop-i.invariant.grows.frame v) _ _ d _ _ here.body here.part)
-    (c.loop-i.invariant.made start all d twigs e p made v) k))
+    (c.loop-i.invariant.made start all d subtrees e p made v) k))
     d body part
 
 pub loop-i-preserved : goal.loop-i-preserved
@@ -122,17 +122,17 @@ loop-i-preserved g t c =
           (g.P.Pages.store c.fold_below.new.pages) c.loop-i.invariant.grows c.in_ok-fold_below.ensures.grows;
       same = λ k. let now = c.in_ok-fold_below.ensures.same k in same_trans _ _ _ (c.loop-i.invariant.same now.word) now;
       takes = c.in_ok-fold_below.ensures.takes ∙ c.loop-i.invariant.takes;
-      made = λ start all d twigs e p made k.
+      made = λ start all d subtrees e p made k.
           let v = (c.in_ok-fold_below.ensures.grows.frame k).word in
           let here = child_here (g.P.Pages.store c.read.new.self) c.args.page c.args.level d c.args.low.now
-          (option_map (λ b. b.now) c.args.high) twigs _ e p c.loop-i.i _ _ _ (omega (arith, c.loop-i-test.true))
+          (option_map (λ b. b.now) c.args.high) subtrees _ e p c.loop-i.i _ _ _ (omega (arith, c.loop-i-test.true))
           (bounds_are _ _ _ _ _ _ c.low_bound-from.ensures.first c.low_bound-from.ensures.later c.high_bound-to.ensures.last c.high_bound-to.ensures.inner)
-          (λ a. sym (ap (λ (x : Arm). x.child) (c.branch_child-child.ensures a))) in
+          (λ a. sym (ap (λ (x : Pivot). x.child) (c.branch_child-child.ensures a))) in
           subst (λ es. g.F.Fold.makes start es c.fold_below.new.fold)
-          (child_on (g.P.Pages.store c.read.new.self) c.args.level d twigs c.loop-i.i _ _ c.args.bounds.from.now _
+          (child_on (g.P.Pages.store c.read.new.self) c.args.level d subtrees c.loop-i.i _ _ c.args.bounds.from.now _
           (option_map (λ b. b.now) c.args.bounds.to) here all)
           (c.in_ok-fold_below.ensures.folds start _ d here.body (part_kept _ _ (c.loop-i.invariant.grows.frame v) _ _ d _ _ here.body here.part)
-          (c.loop-i.invariant.made start all d twigs e p made v) k);
+          (c.loop-i.invariant.made start all d subtrees e p made v) k);
       lent = λ start h. c.in_ok-fold_below.ensures.lent start (c.loop-i.invariant.lent start h);
     }
 
@@ -141,13 +141,13 @@ returns-clause-folds g t c =
     λ start all d body part made k.
     let w = (c.loop-i.invariant.grows.frame k).word in
     at_branch (g.P.Pages.store c.args.pages.now) (g.P.Pages.store c.read.new.self) c.args.page c.args.level _ _ c.in-Branch.branch
-    (c.in_ok-shared.ensures.value w ∙ ap (λ (s : Sheet). s.content) (sym c.image-2.ensures) ∙ ap content_in c.in-Branch.is)
+    (c.in_ok-shared.ensures.value w ∙ ap (λ (s : PageModel). s.content) (sym c.image-2.ensures) ∙ ap content_in c.in-Branch.is)
     (frame_same (g.P.Pages.store c.args.pages.now) (g.P.Pages.store c.read.new.self) (c.in_ok-shared.ensures.same w))
     (λ d body. g.F.Fold.makes start (all ++ between c.args.bounds (entries_of d body)) c.loop-i.fold)
-    (λ d twigs e p.
+    (λ d subtrees e p.
     subst (λ ts. g.F.Fold.makes start (all ++ between c.args.bounds (entries_of (suc d) ts)) c.loop-i.fold)
-    (take_all twigs c.loop-i.i (omega (arith, ap length e, long_map (arm_of {B = Body d}) twigs, c.loop-i-test.false)))
-    (c.loop-i.invariant.made start all d twigs e p made k))
+    (take_all subtrees c.loop-i.i (omega (arith, ap length e, long_map (pivot_of {B = Body d}) subtrees, c.loop-i-test.false)))
+    (c.loop-i.invariant.made start all d subtrees e p made k))
     d body part
 
 pub returns-in_err-shared-clause-grows : goal.returns-in_err-shared-clause-grows

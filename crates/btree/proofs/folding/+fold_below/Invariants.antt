@@ -2,7 +2,7 @@ use Rattle.std.proofs.Common.{◌≡◌, ◌-◌, ◌++◌, ℕ, suc, List, map,
 use Rattle.std.specs.Option.{option_map}
 use Rattle.btree.specs.Keys.{Entry}
 use Rattle.btree.specs.Store.{Grows, IsSame, KeepsWord}
-use Rattle.btree.specs.Tree.{Body, arm_of, entries_of}
+use Rattle.btree.specs.Tree.{Body, pivot_of, entries_of}
 use Rattle.btree.specs.Calls.{IsPart}
 use Rattle.btree.specs.Fold.{HasTaken, between}
 use Rattle.btree.proofs.folding.+fold_below.Given as goal
@@ -14,9 +14,10 @@ abbrev pub invariant-loop-i : goal.invariant-loop-i
 invariant-loop-i g l = record {
   grows : Grows (g.P.Pages.store l.initial.pages) (g.P.Pages.store l.pages);
   same : KeepsWord (g.P.Pages.store l.pages) → IsSame (g.P.Pages.store l.initial.pages) (g.P.Pages.store l.pages);
-  takes : (g.P.Pages.store l.pages).full_takes ≡ (g.P.Pages.store l.initial.pages).full_takes;
-  made : (start : g.row.F.Denot) (all : List Entry) (d : ℕ) (twigs : Body (suc d)) → l.branch ≡ map arm_of twigs
-      → IsPart (g.P.Pages.store l.initial.pages) l.page l.level (suc d) l.low (option_map (λ b. b.now) l.high) twigs → g.F.Fold.makes start all l.initial.fold
-      → KeepsWord (g.P.Pages.store l.pages) → g.F.Fold.makes start (all ++ between l.bounds (entries_of (suc d) (take l.i twigs))) l.fold;
+  takes : (g.P.Pages.store l.pages).failed_allocations ≡ (g.P.Pages.store l.initial.pages).failed_allocations;
+  made : (start : g.row.F.Denot) (all : List Entry) (d : ℕ) (subtrees : Body (suc d)) → l.branch ≡ map pivot_of subtrees
+      → IsPart (g.P.Pages.store l.initial.pages) l.page l.level (suc d) l.low (option_map (λ b. b.now) l.high) subtrees
+      → g.F.Fold.makes start all l.initial.fold
+      → KeepsWord (g.P.Pages.store l.pages) → g.F.Fold.makes start (all ++ between l.bounds (entries_of (suc d) (take l.i subtrees))) l.fold;
   lent : (start : g.row.F.Denot) → HasTaken g.F.Fold.makes start l.initial.fold → HasTaken g.F.Fold.makes start l.fold;
 }

@@ -9,7 +9,7 @@ abbrev pub invariant-loop-i : goal.invariant-loop-i
 invariant-loop-i g l = record {
   grows : Grows (g.P.Pages.store l.initial.pages) (g.P.Pages.store l.pages);
   same : KeepsWord (g.P.Pages.store l.pages) → IsSame (g.P.Pages.store l.initial.pages) (g.P.Pages.store l.pages);
-  takes : (g.P.Pages.store l.pages).full_takes ≡ (g.P.Pages.store l.initial.pages).full_takes;
+  takes : (g.P.Pages.store l.pages).failed_allocations ≡ (g.P.Pages.store l.initial.pages).failed_allocations;
   made : (start : g.row.F.Denot) (all : List Entry) (pairs : List Pair) → l.leaf ≡ map item_of pairs → Rises (pair_keys pairs)
       → Shows (g.P.Pages.store l.initial.pages) zero pairs → g.F.Fold.makes start all l.initial.fold
       → KeepsWord (g.P.Pages.store l.pages) → g.F.Fold.makes start (all ++ between l.bounds (map entry_of (take l.i pairs))) l.fold;

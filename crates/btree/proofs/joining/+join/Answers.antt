@@ -1,7 +1,7 @@
 use Rattle.std.proofs.Common.{◌≡◌, ◌<◌, ◌++◌, arith, length, refl, rules}
 use Rattle.btree.specs.Few.{AreNotJoined}
-use Rattle.btree.specs.LooseView.{stub_in}
-use Rattle.btree.specs.Turn.{sheaf_in}
+use Rattle.btree.specs.LooseView.{slot_in}
+use Rattle.btree.specs.Turn.{model_in}
 use Rattle.btree.proofs.ListLemmas.{long_map}
 use Rattle.btree.proofs.StoreLemmas.{cause_later, frame_trans, grows_trans}
 use Rattle.btree.proofs.FewLemmas.{few_before, few_behind, few_concat, few_left_gone, few_level, few_on, few_right_gone, not_joined_none, stopped}
@@ -13,41 +13,48 @@ use Rattle.btree.proofs.joining.+join.Goals as goal
 pub returns-then-is_empty-clause-turns : goal.returns-then-is_empty-clause-turns
 returns-then-is_empty-clause-turns g t c =
     λ base low mid high first last lp rp h1 h2 over upto k.
-    let none = none_there c.args.left.units.len (length c.args.left.units.items) _ c.is_empty.ensures c.if-is_empty.true c.args.left.units.ok.0 in
-    left_gone (g.P.Pages.store c.args.pages.now) base low mid high first last lp rp (sheaf_in c.args.left) (sheaf_in c.args.right) h1 h2 over upto
-    (omega (arith, long_map stub_in c.args.left.units.items))
+    let none = none_there c.args.left.loose_slots.len (length c.args.left.loose_slots.items) _ c.is_empty.ensures c.if-is_empty.true
+    c.args.left.loose_slots.ok.0 in
+    left_gone (g.P.Pages.store c.args.pages.now) base low mid high first last lp rp (model_in c.args.left) (model_in c.args.right) h1 h2 over upto
+    (omega (arith, long_map slot_in c.args.left.loose_slots.items))
 
 pub returns-then-is_empty-2-clause-turns : goal.returns-then-is_empty-2-clause-turns
 returns-then-is_empty-2-clause-turns g t c =
     λ base low mid high first last lp rp h1 h2 over upto k.
-    let none = none_there c.args.right.units.len (length c.args.right.units.items) _ c.is_empty-2.ensures c.if-is_empty-2.true c.args.right.units.ok.0 in
-    right_gone (g.P.Pages.store c.args.pages.now) base low mid high first last lp rp (sheaf_in c.args.left) (sheaf_in c.args.right) h1 h2 over upto
-    (omega (arith, long_map stub_in c.args.right.units.items))
+    let none = none_there c.args.right.loose_slots.len (length c.args.right.loose_slots.items) _ c.is_empty-2.ensures c.if-is_empty-2.true
+    c.args.right.loose_slots.ok.0 in
+    right_gone (g.P.Pages.store c.args.pages.now) base low mid high first last lp rp (model_in c.args.left) (model_in c.args.right) h1 h2 over upto
+    (omega (arith, long_map slot_in c.args.right.loose_slots.items))
 
 pub returns-then-left-right-clause-turns : goal.returns-then-left-right-clause-turns
 returns-then-left-right-clause-turns g t c =
     λ base low mid high first last lp rp h1 h2 over upto k.
     concat_turns (g.P.Pages.store c.args.pages.now) (g.P.Pages.store c.args.pages.now) base low high (first ++ last) (lp ++ rp) (lp ++ rp)
-    (sheaf_in c.args.left) (sheaf_in c.args.right) c.concat.result
+    (model_in c.args.left) (model_in c.args.right) c.concat.result
     (glue_held (g.P.Pages.store c.args.pages.now) base low mid high first last lp rp _ _ h1 h2 c.if-left-right.true over upto)
     (λ n. omega arith) c.concat.ensures.rank c.concat.ensures.ok c.concat.ensures.err
 
 pub returns-in_err-front-clause-turns : goal.returns-in_err-front-clause-turns
 returns-in_err-front-clause-turns g t c =
     λ base low mid high first last lp rp h1 h2 over upto k.
-    let some = some_there c.args.left.units.len (length c.args.left.units.items) _ c.is_empty.ensures c.if-is_empty.false c.args.left.units.ok.0 in
-    let more = some_there c.args.right.units.len (length c.args.right.units.items) _ c.is_empty-2.ensures c.if-is_empty-2.false c.args.right.units.ok.0 in
+    let some = some_there c.args.left.loose_slots.len (length c.args.left.loose_slots.items) _ c.is_empty.ensures c.if-is_empty.false
+    c.args.left.loose_slots.ok.0 in
+    let more = some_there c.args.right.loose_slots.len (length c.args.right.loose_slots.items) _ c.is_empty-2.ensures c.if-is_empty-2.false
+    c.args.right.loose_slots.ok.0 in
     turns_failed (g.P.Pages.store c.args.pages.now) (g.P.Pages.store c.take_last.new.pages) base low high _ _ c.from_residual.result _ c.from_residual.ensures.1
-    (c.in_err-front.ensures.parts base low _ first lp h1 (omega (arith, h2.rank_is (omega (arith, long_map stub_in c.args.right.units.items)))) some k)
+    (c.in_err-front.ensures.parts base low _ first lp h1 (omega (arith, h2.rank_is (omega (arith, long_map slot_in c.args.right.loose_slots.items)))) some k)
 
 pub returns-in_err-below-clause-turns : goal.returns-in_err-below-clause-turns
 returns-in_err-below-clause-turns g t c =
     λ base low mid high first last lp rp h1 h2 over upto k.
     let v = (c.in_err-below.ensures.grows.frame k).word in
     let g1 = c.in_ok-front.ensures.grows.frame v in
-    let some = some_there c.args.left.units.len (length c.args.left.units.items) _ c.is_empty.ensures c.if-is_empty.false c.args.left.units.ok.0 in
-    let more = some_there c.args.right.units.len (length c.args.right.units.items) _ c.is_empty-2.ensures c.if-is_empty-2.false c.args.right.units.ok.0 in
-    let p = c.in_ok-front.ensures.parts base low _ first lp h1 (omega (arith, h2.rank_is (omega (arith, long_map stub_in c.args.right.units.items)))) some v in
+    let some = some_there c.args.left.loose_slots.len (length c.args.left.loose_slots.items) _ c.is_empty.ensures c.if-is_empty.false
+    c.args.left.loose_slots.ok.0 in
+    let more = some_there c.args.right.loose_slots.len (length c.args.right.loose_slots.items) _ c.is_empty-2.ensures c.if-is_empty-2.false
+    c.args.right.loose_slots.ok.0 in
+    let p = c.in_ok-front.ensures.parts base low _ first lp h1 (omega (arith, h2.rank_is (omega (arith, long_map slot_in c.args.right.loose_slots.items))))
+    some v in
     turns_failed (g.P.Pages.store c.args.pages.now)
     (g.P.Pages.store c.join.new.pages) base low high _ _ c.from_residual-in_err-below.result _ c.from_residual-in_err-below.ensures.1
     (cause_later (g.P.Pages.store c.args.pages.now) (g.P.Pages.store c.take_last.new.pages) (g.P.Pages.store c.join.new.pages) _ g1
@@ -60,14 +67,16 @@ returns-then-left-right-2-clause-turns g t c =
     let g3 = c.raise_behind.ensures.grows.frame k in
     let g2 = c.in_ok-below.ensures.grows.frame g3.word in
     let g1 = c.in_ok-front.ensures.grows.frame g2.word in
-    let some = some_there c.args.left.units.len (length c.args.left.units.items) _ c.is_empty.ensures c.if-is_empty.false c.args.left.units.ok.0 in
-    let more = some_there c.args.right.units.len (length c.args.right.units.items) _ c.is_empty-2.ensures c.if-is_empty-2.false c.args.right.units.ok.0 in
+    let some = some_there c.args.left.loose_slots.len (length c.args.left.loose_slots.items) _ c.is_empty.ensures c.if-is_empty.false
+    c.args.left.loose_slots.ok.0 in
+    let more = some_there c.args.right.loose_slots.len (length c.args.right.loose_slots.items) _ c.is_empty-2.ensures c.if-is_empty-2.false
+    c.args.right.loose_slots.ok.0 in
     let p = c.in_ok-front.ensures.parts base low _ first lp h1
-    (omega (arith, h2.rank_is (omega (arith, long_map stub_in c.args.right.units.items)))) some g2.word in
+    (omega (arith, h2.rank_is (omega (arith, long_map slot_in c.args.right.loose_slots.items)))) some g2.word in
     let u = c.in_ok-below.ensures.turns base p.0.mid mid high p.0.back_entries last p.0.back_pages rp p.0.back_held
     (held_later _ _ base mid high last rp _ g1 h2) p.0.within upto g3.word in
     let j = c.in_ok-below.ensures.joined.left_higher (omega (arith, c.in_ok-front.ensures.back_rank))
-    (omega (arith, c.in_ok-front.ensures.back, long_map stub_in c.in_ok-front.last.units.items)) in
+    (omega (arith, c.in_ok-front.ensures.back, long_map slot_in c.in_ok-front.last.loose_slots.items)) in
     turned_left (g.P.Pages.store c.args.pages.now) (g.P.Pages.store c.take_last.new.pages) (g.P.Pages.store c.join.new.pages)
     (g.P.Pages.store c.raise_behind.new.pages) base low mid high first last lp rp _ _ _ c.raise_behind.result
     g1 g2 p.0 u
@@ -78,21 +87,26 @@ returns-then-left-right-2-clause-turns g t c =
 pub returns-in_err-first-clause-turns : goal.returns-in_err-first-clause-turns
 returns-in_err-first-clause-turns g t c =
     λ base low mid high first last lp rp h1 h2 over upto k.
-    let some = some_there c.args.left.units.len (length c.args.left.units.items) _ c.is_empty.ensures c.if-is_empty.false c.args.left.units.ok.0 in
-    let more = some_there c.args.right.units.len (length c.args.right.units.items) _ c.is_empty-2.ensures c.if-is_empty-2.false c.args.right.units.ok.0 in
+    let some = some_there c.args.left.loose_slots.len (length c.args.left.loose_slots.items) _ c.is_empty.ensures c.if-is_empty.false
+    c.args.left.loose_slots.ok.0 in
+    let more = some_there c.args.right.loose_slots.len (length c.args.right.loose_slots.items) _ c.is_empty-2.ensures c.if-is_empty-2.false
+    c.args.right.loose_slots.ok.0 in
     turns_failed (g.P.Pages.store c.args.pages.now)
     (g.P.Pages.store c.take_first.new.pages) base low high _ _ c.from_residual-in_err-first.result _ c.from_residual-in_err-first.ensures.1
-    (c.in_err-first.ensures.parts base mid high last rp h2 (omega (arith, h1.rank_is (omega (arith, long_map stub_in c.args.left.units.items)))) more upto k)
+    (c.in_err-first.ensures.parts base mid high last rp h2 (omega (arith, h1.rank_is (omega (arith, long_map slot_in c.args.left.loose_slots.items)))) more
+    upto k)
 
 pub returns-in_err-below-2-clause-turns : goal.returns-in_err-below-2-clause-turns
 returns-in_err-below-2-clause-turns g t c =
     λ base low mid high first last lp rp h1 h2 over upto k.
     let v = (c.in_err-below-2.ensures.grows.frame k).word in
     let g1 = c.in_ok-first.ensures.grows.frame v in
-    let some = some_there c.args.left.units.len (length c.args.left.units.items) _ c.is_empty.ensures c.if-is_empty.false c.args.left.units.ok.0 in
-    let more = some_there c.args.right.units.len (length c.args.right.units.items) _ c.is_empty-2.ensures c.if-is_empty-2.false c.args.right.units.ok.0 in
+    let some = some_there c.args.left.loose_slots.len (length c.args.left.loose_slots.items) _ c.is_empty.ensures c.if-is_empty.false
+    c.args.left.loose_slots.ok.0 in
+    let more = some_there c.args.right.loose_slots.len (length c.args.right.loose_slots.items) _ c.is_empty-2.ensures c.if-is_empty-2.false
+    c.args.right.loose_slots.ok.0 in
     let p = c.in_ok-first.ensures.parts base mid high last rp h2
-    (omega (arith, h1.rank_is (omega (arith, long_map stub_in c.args.left.units.items)))) more upto v in
+    (omega (arith, h1.rank_is (omega (arith, long_map slot_in c.args.left.loose_slots.items)))) more upto v in
     turns_failed (g.P.Pages.store c.args.pages.now)
     (g.P.Pages.store c.join-2.new.pages) base low high _ _ c.from_residual-in_err-below-2.result _ c.from_residual-in_err-below-2.ensures.1
     (cause_later (g.P.Pages.store c.args.pages.now) (g.P.Pages.store c.take_first.new.pages) (g.P.Pages.store c.join-2.new.pages) _ g1
@@ -105,14 +119,16 @@ returns-clause-turns g t c =
     let g3 = c.raise_before.ensures.grows.frame k in
     let g2 = c.in_ok-below-2.ensures.grows.frame g3.word in
     let g1 = c.in_ok-first.ensures.grows.frame g2.word in
-    let some = some_there c.args.left.units.len (length c.args.left.units.items) _ c.is_empty.ensures c.if-is_empty.false c.args.left.units.ok.0 in
-    let more = some_there c.args.right.units.len (length c.args.right.units.items) _ c.is_empty-2.ensures c.if-is_empty-2.false c.args.right.units.ok.0 in
+    let some = some_there c.args.left.loose_slots.len (length c.args.left.loose_slots.items) _ c.is_empty.ensures c.if-is_empty.false
+    c.args.left.loose_slots.ok.0 in
+    let more = some_there c.args.right.loose_slots.len (length c.args.right.loose_slots.items) _ c.is_empty-2.ensures c.if-is_empty-2.false
+    c.args.right.loose_slots.ok.0 in
     let p = c.in_ok-first.ensures.parts base mid high last rp h2
-    (omega (arith, h1.rank_is (omega (arith, long_map stub_in c.args.left.units.items)))) more upto g2.word in
+    (omega (arith, h1.rank_is (omega (arith, long_map slot_in c.args.left.loose_slots.items)))) more upto g2.word in
     let u = c.in_ok-below-2.ensures.turns base low mid p.0.between first p.0.front_entries lp p.0.front_pages
     (held_later _ _ base low _ first lp _ g1 h1) p.0.front_held over p.0.within g3.word in
     let j = c.in_ok-below-2.ensures.joined.right_higher (omega (arith, c.in_ok-first.ensures.front_rank))
-    (omega (arith, c.in_ok-first.ensures.front, long_map stub_in c.in_ok-first.first.units.items)) in
+    (omega (arith, c.in_ok-first.ensures.front, long_map slot_in c.in_ok-first.first.loose_slots.items)) in
     turned_right (g.P.Pages.store c.args.pages.now) (g.P.Pages.store c.take_first.new.pages) (g.P.Pages.store c.join-2.new.pages)
     (g.P.Pages.store c.raise_before.new.pages) base low mid high first last lp rp _ _ _ c.raise_before.result
     g1 g2 p.0 u
@@ -136,24 +152,26 @@ returns-clause-grows g t c = grows_trans _ _ _ (grows_trans _ _ _ c.in_ok-first.
 pub returns-then-is_empty-clause-few : goal.returns-then-is_empty-clause-few
 returns-then-is_empty-clause-few g t c =
     λ k hl hr.
-    let none = none_there c.args.left.units.len (length c.args.left.units.items) _ c.is_empty.ensures c.if-is_empty.true c.args.left.units.ok.0 in
-    few_left_gone (g.P.Pages.store c.args.pages.now) 5440 (sheaf_in c.args.left) (sheaf_in c.args.right)
-    (omega (arith, long_map stub_in c.args.left.units.items)) hr
+    let none = none_there c.args.left.loose_slots.len (length c.args.left.loose_slots.items) _ c.is_empty.ensures c.if-is_empty.true
+    c.args.left.loose_slots.ok.0 in
+    few_left_gone (g.P.Pages.store c.args.pages.now) 5440 (model_in c.args.left) (model_in c.args.right)
+    (omega (arith, long_map slot_in c.args.left.loose_slots.items)) hr
 
 pub returns-then-is_empty-2-clause-few : goal.returns-then-is_empty-2-clause-few
 returns-then-is_empty-2-clause-few g t c =
     λ k hl hr.
-    let none = none_there c.args.right.units.len (length c.args.right.units.items) _ c.is_empty-2.ensures c.if-is_empty-2.true c.args.right.units.ok.0 in
-    few_right_gone (g.P.Pages.store c.args.pages.now) 5440 (sheaf_in c.args.left) (sheaf_in c.args.right)
-    (omega (arith, long_map stub_in c.args.right.units.items)) hl
+    let none = none_there c.args.right.loose_slots.len (length c.args.right.loose_slots.items) _ c.is_empty-2.ensures c.if-is_empty-2.true
+    c.args.right.loose_slots.ok.0 in
+    few_right_gone (g.P.Pages.store c.args.pages.now) 5440 (model_in c.args.left) (model_in c.args.right)
+    (omega (arith, long_map slot_in c.args.right.loose_slots.items)) hl
 
 pub returns-then-left-right-clause-few : goal.returns-then-left-right-clause-few
 returns-then-left-right-clause-few g t c =
     λ k hl hr.
-    few_level (g.P.Pages.store c.args.pages.now) (g.P.Pages.store c.args.pages.now) 5440 (sheaf_in c.args.left)
-    (sheaf_in c.args.right) c.concat.result c.if-left-right.true
-    (few_concat (g.P.Pages.store c.args.pages.now) (g.P.Pages.store c.args.pages.now) c.args.left.rank _ 0 (sheaf_in c.args.left)
-    (sheaf_in c.args.right) c.concat.result refl c.concat.ensures.rank c.concat.ensures.ok hl hr (omega arith) (omega arith))
+    few_level (g.P.Pages.store c.args.pages.now) (g.P.Pages.store c.args.pages.now) 5440 (model_in c.args.left)
+    (model_in c.args.right) c.concat.result c.if-left-right.true
+    (few_concat (g.P.Pages.store c.args.pages.now) (g.P.Pages.store c.args.pages.now) c.args.left.rank _ 0 (model_in c.args.left)
+    (model_in c.args.right) c.concat.result refl c.concat.ensures.rank c.concat.ensures.ok hl hr (omega arith) (omega arith))
 
 pub returns-then-left-right-2-clause-few : goal.returns-then-left-right-2-clause-few
 returns-then-left-right-2-clause-few g t c =
@@ -161,8 +179,8 @@ returns-then-left-right-2-clause-few g t c =
     let g3 = c.raise_behind.ensures.grows.frame k in
     let g2 = c.in_ok-below.ensures.grows.frame g3.word in
     let o = c.in_ok-front.ensures.few g2.word hl in
-    few_behind (g.P.Pages.store c.args.pages.now) (g.P.Pages.store c.raise_behind.new.pages) 5440 (sheaf_in c.args.left)
-    (sheaf_in c.args.right) c.raise_behind.result (omega arith)
+    few_behind (g.P.Pages.store c.args.pages.now) (g.P.Pages.store c.raise_behind.new.pages) 5440 (model_in c.args.left)
+    (model_in c.args.right) c.raise_behind.result (omega arith)
     (λ e little.
     let b = (c.in_ok-below.ensures.few g3.word o.opened_small hr).level (omega (arith, e, c.in_ok-front.ensures.back_rank)) in
     few_on (g.P.Pages.store c.args.pages.now) (g.P.Pages.store c.join.new.pages)
@@ -176,8 +194,8 @@ returns-clause-few g t c =
     let g3 = c.raise_before.ensures.grows.frame k in
     let g2 = c.in_ok-below-2.ensures.grows.frame g3.word in
     let o = c.in_ok-first.ensures.few g2.word hr in
-    few_before (g.P.Pages.store c.args.pages.now) (g.P.Pages.store c.raise_before.new.pages) 5440 (sheaf_in c.args.left)
-    (sheaf_in c.args.right) c.raise_before.result (omega arith)
+    few_before (g.P.Pages.store c.args.pages.now) (g.P.Pages.store c.raise_before.new.pages) 5440 (model_in c.args.left)
+    (model_in c.args.right) c.raise_before.result (omega arith)
     (λ e little.
     let b = (c.in_ok-below-2.ensures.few g3.word hl o.opened_small).level (omega (arith, e, c.in_ok-first.ensures.front_rank)) in
     few_on (g.P.Pages.store c.args.pages.now) (g.P.Pages.store c.join-2.new.pages)
@@ -191,14 +209,14 @@ pub returns-in_err-front-clause-few : goal.returns-in_err-front-clause-few
 returns-in_err-front-clause-few g t c =
     λ k hl hr.
     stopped _ _ _ c.from_residual.result c.from_residual.ensures.1
-    (not_joined_none (g.P.Pages.store c.args.pages.now) (g.P.Pages.store c.take_last.new.pages) 5440 (sheaf_in c.args.left) (sheaf_in c.args.right)
+    (not_joined_none (g.P.Pages.store c.args.pages.now) (g.P.Pages.store c.take_last.new.pages) 5440 (model_in c.args.left) (model_in c.args.right)
     (c.in_err-front.ensures.few k hl))
 
 pub returns-in_err-first-clause-few : goal.returns-in_err-first-clause-few
 returns-in_err-first-clause-few g t c =
     λ k hl hr.
     stopped _ _ _ c.from_residual-in_err-first.result c.from_residual-in_err-first.ensures.1
-    (not_joined_none (g.P.Pages.store c.args.pages.now) (g.P.Pages.store c.take_first.new.pages) 5440 (sheaf_in c.args.left) (sheaf_in c.args.right)
+    (not_joined_none (g.P.Pages.store c.args.pages.now) (g.P.Pages.store c.take_first.new.pages) 5440 (model_in c.args.left) (model_in c.args.right)
     (c.in_err-first.ensures.few k hr))
 
 pub returns-in_err-below-clause-few : goal.returns-in_err-below-clause-few
@@ -206,7 +224,7 @@ returns-in_err-below-clause-few g t c =
     λ k hl hr.
     let o = c.in_ok-front.ensures.few (c.in_err-below.ensures.grows.frame k).word hl in
     let b = c.in_err-below.ensures.few k o.opened_small hr in
-    let n : AreNotJoined (g.P.Pages.store c.args.pages.now) (g.P.Pages.store c.join.new.pages) 5440 (sheaf_in c.args.left) (sheaf_in c.args.right) = record {
+    let n : AreNotJoined (g.P.Pages.store c.args.pages.now) (g.P.Pages.store c.join.new.pages) 5440 (model_in c.args.left) (model_in c.args.right) = record {
       level = λ e. absurd (omega arith);
       behind = λ e some le. let m = b.level (omega (arith, e, c.in_ok-front.ensures.back_rank)) in omega (arith, o.made, m);
       before = λ e some le. absurd (omega arith);
@@ -218,7 +236,7 @@ returns-in_err-below-2-clause-few g t c =
     λ k hl hr.
     let o = c.in_ok-first.ensures.few (c.in_err-below-2.ensures.grows.frame k).word hr in
     let b = c.in_err-below-2.ensures.few k hl o.opened_small in
-    let n : AreNotJoined (g.P.Pages.store c.args.pages.now) (g.P.Pages.store c.join-2.new.pages) 5440 (sheaf_in c.args.left) (sheaf_in c.args.right) = record {
+    let n : AreNotJoined (g.P.Pages.store c.args.pages.now) (g.P.Pages.store c.join-2.new.pages) 5440 (model_in c.args.left) (model_in c.args.right) = record {
       level = λ e. absurd (omega arith);
       behind = λ e some le. absurd (omega arith);
       before = λ e some le. let m = b.level (omega (arith, e, c.in_ok-first.ensures.front_rank)) in omega (arith, o.made, m);
@@ -228,12 +246,12 @@ returns-in_err-below-2-clause-few g t c =
 pub returns-then-is_empty-clause-joined : goal.returns-then-is_empty-clause-joined
 returns-then-is_empty-clause-joined g t c =
     joined_gone c.args.left c.args.right
-    (none_there c.args.left.units.len (length c.args.left.units.items) _ c.is_empty.ensures c.if-is_empty.true c.args.left.units.ok.0)
+    (none_there c.args.left.loose_slots.len (length c.args.left.loose_slots.items) _ c.is_empty.ensures c.if-is_empty.true c.args.left.loose_slots.ok.0)
 
 pub returns-then-is_empty-2-clause-joined : goal.returns-then-is_empty-2-clause-joined
 returns-then-is_empty-2-clause-joined g t c =
     joined_alone c.args.left c.args.right
-    (none_there c.args.right.units.len (length c.args.right.units.items) _ c.is_empty-2.ensures c.if-is_empty-2.true c.args.right.units.ok.0)
+    (none_there c.args.right.loose_slots.len (length c.args.right.loose_slots.items) _ c.is_empty-2.ensures c.if-is_empty-2.true c.args.right.loose_slots.ok.0)
 
 pub returns-then-left-right-clause-joined : goal.returns-then-left-right-clause-joined
 returns-then-left-right-clause-joined g t c =
@@ -243,18 +261,18 @@ pub returns-then-left-right-2-clause-joined : goal.returns-then-left-right-2-cla
 returns-then-left-right-2-clause-joined g t c =
     let last = c.in_ok-front.last in
     let j = c.in_ok-below.ensures.joined.left_higher (omega (arith, c.in_ok-front.ensures.back_rank))
-    (omega (arith, c.in_ok-front.ensures.back, long_map stub_in last.units.items)) in
+    (omega (arith, c.in_ok-front.ensures.back, long_map slot_in last.loose_slots.items)) in
     joined_behind c.args.left c.args.right c.raise_behind.result c.in_ok-front.front (omega arith) c.in_ok-front.ensures.front_rank
     c.in_ok-front.ensures.front c.raise_behind.ensures.rank
     (c.raise_behind.ensures.long
-    (omega (arith, j.1, c.in_ok-front.ensures.back, long_map stub_in last.units.items, long_map stub_in c.in_ok-below.below.units.items)))
+    (omega (arith, j.1, c.in_ok-front.ensures.back, long_map slot_in last.loose_slots.items, long_map slot_in c.in_ok-below.below.loose_slots.items)))
 
 pub returns-clause-joined : goal.returns-clause-joined
 returns-clause-joined g t c =
     let first = c.in_ok-first.first in
     let j = c.in_ok-below-2.ensures.joined.right_higher (omega (arith, c.in_ok-first.ensures.front_rank))
-    (omega (arith, c.in_ok-first.ensures.front, long_map stub_in first.units.items)) in
+    (omega (arith, c.in_ok-first.ensures.front, long_map slot_in first.loose_slots.items)) in
     joined_before c.args.left c.args.right c.raise_before.result c.in_ok-first.back (omega arith) c.in_ok-first.ensures.back_rank
     c.in_ok-first.ensures.back c.raise_before.ensures.rank
     (c.raise_before.ensures.long
-    (omega (arith, j.1, c.in_ok-first.ensures.front, long_map stub_in first.units.items, long_map stub_in c.in_ok-below-2.below.units.items)))
+    (omega (arith, j.1, c.in_ok-first.ensures.front, long_map slot_in first.loose_slots.items, long_map slot_in c.in_ok-below-2.below.loose_slots.items)))

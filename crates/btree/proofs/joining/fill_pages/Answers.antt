@@ -7,7 +7,7 @@ returns c =
     λ no small.
     omega (
       arith,
-      little_behind c.args.units.now c.units_within-whole.result c.units_within-behind.result 1360 (omega arith) (omega arith)
-          c.units_within-behind.ensures.room,
-      c.units_within-whole.ensures.room,
+      little_behind c.args.loose_slots.now c.loose_slots_within-whole.result c.loose_slots_within-behind.result 1360 (omega arith) (omega arith)
+          c.loose_slots_within-behind.ensures.room,
+      c.loose_slots_within-whole.ensures.room,
     )

@@ -1,6 +1,6 @@
 use Rattle.std.proofs.Common.{◌++◌, arith}
 use Rattle.btree.specs.Few.{MakesUpTo}
-use Rattle.btree.specs.Turn.{sheaf_in}
+use Rattle.btree.specs.Turn.{model_in}
 use Rattle.btree.proofs.ListLemmas.{times_append}
 use Rattle.btree.proofs.FewLemmas.{few_concat, few_parts, stopped}
 use Rattle.btree.proofs.HeldLemmas.{concat_turns, joined_long, turns_failed}
@@ -20,8 +20,8 @@ returns-clause-turns g c =
     λ base low between high first last pages_below back_pages h ready glue k.
     let t = c.in_ok-above.ensures.turns base low between first pages_below h ready k in
     concat_turns (g.P.Pages.store c.args.pages.now) (g.P.Pages.store c.raise.new.pages) base low high (first ++ last) (pages_below ++ back_pages)
-    (t.after ++ back_pages) (sheaf_in c.in_ok-above.above) (sheaf_in c.args.back) c.concat.result
-    (glue (g.P.Pages.store c.raise.new.pages) first t.after (sheaf_in c.in_ok-above.above) (c.in_ok-above.ensures.grows.frame k) t.held
+    (t.after ++ back_pages) (model_in c.in_ok-above.above) (model_in c.args.back) c.concat.result
+    (glue (g.P.Pages.store c.raise.new.pages) first t.after (model_in c.in_ok-above.above) (c.in_ok-above.ensures.grows.frame k) t.held
     (omega (arith, c.requires.next, c.in_ok-above.ensures.rank)))
     (λ n. omega (arith, t.turned n, times_append n pages_below back_pages, times_append n t.after back_pages)) c.concat.ensures.rank c.concat.ensures.ok
     c.concat.ensures.err
@@ -31,8 +31,8 @@ returns-clause-few g c =
     λ little small k.
     let f = c.in_ok-above.ensures.few k little.0 in
     let p = few_parts _ _ _ _ f little.1 in
-    few_concat (g.P.Pages.store c.args.pages.now) (g.P.Pages.store c.raise.new.pages) c.args.back.rank _ 4 (sheaf_in c.in_ok-above.above)
-    (sheaf_in c.args.back) c.concat.result (omega (arith, c.requires.next, c.in_ok-above.ensures.rank)) c.concat.ensures.rank c.concat.ensures.ok f.small small
+    few_concat (g.P.Pages.store c.args.pages.now) (g.P.Pages.store c.raise.new.pages) c.args.back.rank _ 4 (model_in c.in_ok-above.above)
+    (model_in c.args.back) c.concat.result (omega (arith, c.requires.next, c.in_ok-above.ensures.rank)) c.concat.ensures.rank c.concat.ensures.ok f.small small
     (omega (arith, p.1)) (omega (arith, f.made, p.0))
 
 pub returns-in_err-above-clause-few : goal.returns-in_err-above-clause-few

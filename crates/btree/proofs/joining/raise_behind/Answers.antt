@@ -1,6 +1,6 @@
 use Rattle.std.proofs.Common.{◌++◌, arith, refl}
 use Rattle.btree.specs.Few.{MakesUpTo}
-use Rattle.btree.specs.Turn.{sheaf_in}
+use Rattle.btree.specs.Turn.{model_in}
 use Rattle.btree.proofs.ListLemmas.{times_append}
 use Rattle.btree.proofs.FewLemmas.{few_concat, few_parts, stopped}
 use Rattle.btree.proofs.HeldLemmas.{concat_turns, glue_held, held_later, joined_long, turns_failed}
@@ -20,7 +20,7 @@ returns-clause-turns g c =
     λ base low mid high first last front_pages pages_below h1 h2 ready over upto k.
     let t = c.in_ok-above.ensures.turns base mid high last pages_below h2 ready k in
     concat_turns (g.P.Pages.store c.args.pages.now) (g.P.Pages.store c.raise.new.pages) base low high (first ++ last) (front_pages ++ pages_below)
-    (front_pages ++ t.after) (sheaf_in c.args.front) (sheaf_in c.in_ok-above.above) c.concat.result
+    (front_pages ++ t.after) (model_in c.args.front) (model_in c.in_ok-above.above) c.concat.result
     (glue_held (g.P.Pages.store c.raise.new.pages) base low mid high first last front_pages t.after _ _
     (held_later _ _ base low _ first front_pages _ (c.in_ok-above.ensures.grows.frame k) h1) t.held
     (omega (arith, c.requires.next, c.in_ok-above.ensures.rank)) over upto)
@@ -32,8 +32,8 @@ returns-clause-few g c =
     λ little small k.
     let f = c.in_ok-above.ensures.few k little.0 in
     let p = few_parts _ _ _ _ f little.1 in
-    few_concat (g.P.Pages.store c.args.pages.now) (g.P.Pages.store c.raise.new.pages) c.args.front.rank _ 4 (sheaf_in c.args.front)
-    (sheaf_in c.in_ok-above.above) c.concat.result refl c.concat.ensures.rank c.concat.ensures.ok small f.small (omega (arith, p.1))
+    few_concat (g.P.Pages.store c.args.pages.now) (g.P.Pages.store c.raise.new.pages) c.args.front.rank _ 4 (model_in c.args.front)
+    (model_in c.in_ok-above.above) c.concat.result refl c.concat.ensures.rank c.concat.ensures.ok small f.small (omega (arith, p.1))
     (omega (arith, f.made, p.0))
 
 pub returns-in_err-above-clause-few : goal.returns-in_err-above-clause-few

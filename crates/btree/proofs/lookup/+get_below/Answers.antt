@@ -1,7 +1,7 @@
 use Rattle.std.proofs.Common.{◌≡◌, ◌∙◌, ap, sym, length, inr, rules}
 use Rattle.btree.specs.View.{content_in}
-use Rattle.page.specs.Content.{Arm}
-use Rattle.page.specs.Format.{Sheet}
+use Rattle.page.specs.Content.{Pivot}
+use Rattle.page.specs.Format.{PageModel}
 use Rattle.btree.proofs.StoreLemmas.{answer_failed, frame_same, grows_same, grows_trans, same_trans}
 use Rattle.btree.proofs.GetLemmas.{not_between, in_leaf, too_deep, in_child, bounds_are}
 use Rattle.btree.proofs.lookup.+get_below.Goals as goal
@@ -16,7 +16,7 @@ pub returns-then-not-lies_between-clause-looks : goal.returns-then-not-lies_betw
 returns-then-not-lies_between-clause-looks g t c =
     λ d body part within k.
     not_between (g.P.Pages.store c.args.pages.now) _ _ _ _ _ _
-    (c.in_ok-shared.ensures.value k ∙ ap (λ (s : Sheet). s.content) (sym c.image.ensures)) c.lies_between.ensures c.if-not-lies_between.true d body part
+    (c.in_ok-shared.ensures.value k ∙ ap (λ (s : PageModel). s.content) (sym c.image.ensures)) c.lies_between.ensures c.if-not-lies_between.true d body part
 
 pub returns-in-Leaf-clause-looks : goal.returns-in-Leaf-clause-looks
 returns-in-Leaf-clause-looks g t c =
@@ -25,7 +25,7 @@ returns-in-Leaf-clause-looks g t c =
     in_leaf (g.P.Pages.store c.args.pages.now) c.args.page c.args.level _ _ (λ v. v.items) (g.P.Pages.store c.read.new.self)
     (g.P.Pages.store c.value_in_leaf.new.pages) _ _ _
     (frame_same (g.P.Pages.store c.args.pages.now) (g.P.Pages.store c.read.new.self) (c.in_ok-shared.ensures.same w))
-    (c.in_ok-shared.ensures.value w ∙ ap (λ (s : Sheet). s.content) (sym c.image-2.ensures) ∙ ap content_in c.in-Leaf.is)
+    (c.in_ok-shared.ensures.value w ∙ ap (λ (s : PageModel). s.content) (sym c.image-2.ensures) ∙ ap content_in c.in-Leaf.is)
     (λ pairs e rise shown. c.value_in_leaf.ensures.looks pairs e rise shown k) d body part
 
 pub returns-then-len-eq0-clause-looks : goal.returns-then-len-eq0-clause-looks
@@ -33,7 +33,7 @@ returns-then-len-eq0-clause-looks g t c =
     λ d body part within k.
     let none : length c.in-Branch.branch ≡ 0 = search rules in
     too_deep (g.P.Pages.store c.args.pages.now) _ _ _ _ _
-    (c.in_ok-shared.ensures.value k ∙ ap (λ (s : Sheet). s.content) (sym c.image-2.ensures) ∙ ap content_in c.in-Branch.is) (inr none) d body part
+    (c.in_ok-shared.ensures.value k ∙ ap (λ (s : PageModel). s.content) (sym c.image-2.ensures) ∙ ap content_in c.in-Branch.is) (inr none) d body part
 
 pub returns-clause-looks : goal.returns-clause-looks
 returns-clause-looks g t c =
@@ -41,10 +41,11 @@ returns-clause-looks g t c =
     let w = (c.get_below.ensures.grows.frame k).word in
     in_child (g.P.Pages.store c.args.pages.now) c.args.page c.args.level _ _ (λ v. v.items) (g.P.Pages.store c.read.new.self)
     (g.P.Pages.store c.get_below.new.pages) _ _ _ _ _ _ _
-    (c.in_ok-shared.ensures.value w ∙ ap (λ (s : Sheet). s.content) (sym c.image-2.ensures) ∙ ap content_in c.in-Branch.is)
+    (c.in_ok-shared.ensures.value w ∙ ap (λ (s : PageModel). s.content) (sym c.image-2.ensures) ∙ ap content_in c.in-Branch.is)
     (frame_same (g.P.Pages.store c.args.pages.now) (g.P.Pages.store c.read.new.self) (c.in_ok-shared.ensures.same w)) c.child_of_key-at.ensures
     (bounds_are _ _ _ _ _ _ c.low_bound-from.ensures.first c.low_bound-from.ensures.later c.high_bound-to.ensures.last c.high_bound-to.ensures.inner)
-    (λ e. sym (ap (λ (a : Arm). a.child) (c.branch_child.ensures e))) (λ d body part within. c.get_below.ensures.looks d body part within k) d body part within
+    (λ e. sym (ap (λ (a : Pivot). a.child) (c.branch_child.ensures e))) (λ d body part within. c.get_below.ensures.looks d body part within k) d body part
+    within
 
 pub returns-in_err-shared-clause-grows : goal.returns-in_err-shared-clause-grows
 returns-in_err-shared-clause-grows g t c =

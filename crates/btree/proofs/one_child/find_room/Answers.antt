@@ -1,18 +1,18 @@
 use Rattle.std.proofs.Common.{[], ◌≡◌, ◌-◌, ap, arith, length, map, sym, take}
-use Rattle.page.proofs.ExchangeLemmas.{arms_take}
-use Rattle.btree.specs.Loose.{Stub, child, stubs_size}
-use Rattle.btree.specs.LooseView.{stub_in}
+use Rattle.page.proofs.ExchangeLemmas.{pivots_take}
+use Rattle.btree.specs.Loose.{Slot, child, slots_size}
+use Rattle.btree.specs.LooseView.{slot_in}
 use Rattle.btree.proofs.BetweenLemmas.{room_sound}
 use Rattle.btree.proofs.CuttingLemmas.{take_over}
 use Rattle.btree.proofs.ListLemmas.{long_map}
 use Rattle.btree.proofs.OneChildLemmas.{nothing}
 use Rattle.btree.proofs.one_child.find_room.Goals as goal
 
-none : Stub
+none : Slot
 none = record { key = []; load = child 0 }
 
 pub overflow_sub-behind : goal.overflow_sub-behind
-overflow_sub-behind c = omega (arith, c.size.ensures, c.start.ensures, arms_take c.args.to c.args.branch.now)
+overflow_sub-behind c = omega (arith, c.size.ensures, c.start.ensures, pivots_take c.args.to c.args.branch.now)
 
 pub overflow_add-others : goal.overflow_add-others
 overflow_add-others c =
@@ -21,8 +21,8 @@ overflow_add-others c =
       c.size.ensures,
       c.start.ensures,
       c.start-2.ensures,
-      arms_take c.args.to c.args.branch.now,
-      arms_take c.args.from c.args.branch.now,
+      pivots_take c.args.to c.args.branch.now,
+      pivots_take c.args.from c.args.branch.now,
       c.requires.sound.room,
     )
 
@@ -33,7 +33,7 @@ overflow_add-beside c =
       c.size.ensures,
       c.start.ensures,
       c.start-2.ensures,
-      arms_take c.args.from c.args.branch.now,
+      pivots_take c.args.from c.args.branch.now,
       c.requires.sound.room,
     )
 
@@ -44,18 +44,18 @@ overflow_add-beside-2 c =
       c.size.ensures,
       c.start.ensures,
       c.start-2.ensures,
-      arms_take c.args.from c.args.branch.now,
+      pivots_take c.args.from c.args.branch.now,
       c.requires.sound.room,
     )
 
 pub returns : goal.returns
 returns c =
     λ new e is.
-    let units = c.args.units.now in
-    let ss = map stub_in units in
-    let all : take c.units_within.result ss ≡ ss = take_over c.units_within.result ss (omega (arith, long_map stub_in units)) in
-    room_sound c.args.from c.args.to c.args.branch.now new ss (length units) c.start-2.result c.start.result c.size.result
-    none nothing c.requires.sound c.requires.some c.requires.order c.requires.within e (sym (long_map stub_in units)) (c.go_into_page.ensures.no is)
+    let loose_slots = c.args.loose_slots.now in
+    let ss = map slot_in loose_slots in
+    let all : take c.loose_slots_within.result ss ≡ ss = take_over c.loose_slots_within.result ss (omega (arith, long_map slot_in loose_slots)) in
+    room_sound c.args.from c.args.to c.args.branch.now new ss (length loose_slots) c.start-2.result c.start.result c.size.result
+    none nothing c.requires.sound c.requires.some c.requires.order c.requires.within e (sym (long_map slot_in loose_slots)) (c.go_into_page.ensures.no is)
     (c.are_between.ensures.some c.if-not-are_between.false) (c.are_between.ensures.first none nothing c.if-not-are_between.false)
     (c.are_between.ensures.last none nothing c.if-not-are_between.false) c.start-2.ensures c.start.ensures c.size.ensures
-    (omega (arith, ap stubs_size all, c.units_within.ensures.room))
+    (omega (arith, ap slots_size all, c.loose_slots_within.ensures.room))

@@ -1,7 +1,7 @@
 use Rattle.std.proofs.Common.{arith, map, subst, sym}
 use Rattle.page.specs.Content.{IsBranch}
 use Rattle.page.proofs.ChildPageLemmas.{with_branch}
-use Rattle.btree.specs.Loose.{arm_stub, under_key}
+use Rattle.btree.specs.Loose.{pivot_slot, under_key}
 use Rattle.btree.specs.Turn.{IsHeld}
 use Rattle.btree.proofs.OneChildLemmas.{amid_held}
 use Rattle.btree.proofs.StoreLemmas.{grows_itself}
@@ -12,7 +12,8 @@ returns-clause-turns g c =
     λ base high entries reached below o m deep little k.
     let s = g.P.Pages.store c.args.pages.now in
     c.write_made.ensures.turns base high entries reached
-    (subst (λ arms. IsHeld s base c.args.low.now high entries reached (record { rank = c.args.rank; stubs = map arm_stub (under_key c.args.low.now arms) }))
+    (subst (λ pivots. IsHeld s base c.args.low.now high entries reached
+    (record { rank = c.args.rank; slots = map pivot_slot (under_key c.args.low.now pivots) }))
     (sym c.in_ok-made.ensures)
     (amid_held s base c.args.rank c.args.page c.args.low.now high c.args.branch.now c.args.at entries reached below o m deep))
     deep

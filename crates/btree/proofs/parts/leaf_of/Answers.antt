@@ -1,7 +1,7 @@
 use Rattle.std.proofs.Common.{None, ◌∙◌, sym, ap, subst, arith, map, length}
 use Rattle.page.specs.Content.{IsLeaf, leaf}
-use Rattle.btree.specs.Loose.{GoBehind, item_stub}
-use Rattle.btree.specs.LooseView.{stub_in}
+use Rattle.btree.specs.Loose.{GoBehind, item_slot}
+use Rattle.btree.specs.LooseView.{slot_in}
 use Rattle.btree.specs.View.{item_in}
 use Rattle.btree.proofs.ListLemmas.{long_map}
 use Rattle.btree.proofs.PartLemmas.{leaf_whole, same_items}
@@ -15,8 +15,8 @@ of-requires c =
       arith,
       c.requires.some,
       ap length c.in_ok-cells.ensures.ok,
-      long_map stub_in c.args.units.now,
-      long_map item_stub (map item_in c.in_ok-cells.cells.items),
+      long_map slot_in c.args.loose_slots.now,
+      long_map item_slot (map item_in c.in_ok-cells.cells.items),
     )))
 
 pub returns-clause-holds : goal.returns-clause-holds

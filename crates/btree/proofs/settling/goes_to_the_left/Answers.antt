@@ -1,6 +1,6 @@
 use Rattle.std.proofs.Common.{◌≡◌, ◌<◌, ◌-◌, Some, arith, length, rules}
-use Rattle.btree.specs.LooseView.{stub_in}
-use Rattle.btree.specs.Turn.{sheaf_in}
+use Rattle.btree.specs.LooseView.{slot_in}
+use Rattle.btree.specs.Turn.{model_in}
 use Rattle.btree.proofs.ChangingLemmas.{behind_some}
 use Rattle.btree.proofs.ListLemmas.{long_map}
 use Rattle.btree.proofs.SettleLemmas.{child_there}
@@ -22,8 +22,8 @@ returns-in_err-behind-clause-same g c =
 pub returns-in_err-before-clause-cause : goal.returns-in_err-before-clause-cause
 returns-in_err-before-clause-cause g c =
     λ base low mid between high first last lp rp h b k.
-    let some : 0 < length c.args.left.now.units.items = search rules in
-    let long : c.len.result ≡ length c.args.left.now.units.items = search rules in
+    let some : 0 < length c.args.left.now.loose_slots.items = search rules in
+    let long : c.len.result ≡ length c.args.left.now.loose_slots.items = search rules in
     answer_failed (g.P.Pages.store c.args.pages.now) (g.P.Pages.store c.bytes_below.new.pages) _ _ _ c.from_residual.ensures.1
     (c.in_err-before.ensures.cause k
     (λ page load. child_there (g.P.Pages.store c.args.pages.now) base low (Some mid) first lp c.args.left.now c.index.result.now c.index.result.now
@@ -35,8 +35,8 @@ returns-in_err-behind-clause-cause g c =
     let s = g.P.Pages.store c.args.pages.now in
     let between_store = g.P.Pages.store c.bytes_below.new.pages in
     let new = g.P.Pages.store c.bytes_below-2.new.pages in
-    let some : 0 < length c.args.right.now.units.items = search rules in
-    let m = behind_some s base between high last rp (sheaf_in c.args.right.now) b (omega (arith, long_map stub_in c.args.right.now.units.items)) in
+    let some : 0 < length c.args.right.now.loose_slots.items = search rules in
+    let m = behind_some s base between high last rp (model_in c.args.right.now) b (omega (arith, long_map slot_in c.args.right.now.loose_slots.items)) in
     let g1 = frame_same s between_store (c.in_ok-before.ensures.same (frame_same _ _ (c.in_err-behind.ensures.same k)).word) in
     answer_failed s new _ _ _ c.from_residual-in_err-behind.ensures.1
     (cause_later s between_store new _ g1

@@ -15,7 +15,7 @@ use Rattle.candidate_ids.proofs.telling.asked_ids.Goals as goal
 pub returns-in_err-told : goal.returns-in_err-told
 returns-in_err-told g c =
     let home = c.args.home.now in
-    let p = g.S.Selects.selects c.args.which.now in
+    let p = g.S.DocumentPredicate.selects c.args.which.now in
     let e = err_from_is_err_and c.from_residual.result c.from_residual.ensures.1 in
     rw (e.1, e.2)
     (reads_refused g.D.Disk.history (IsAsked home)
@@ -26,7 +26,7 @@ returns-in_err-told g c =
 pub returns-then-is_empty : goal.returns-then-is_empty
 returns-then-is_empty g c =
     let home = c.args.home.now in
-    let p = g.S.Selects.selects c.args.which.now in
+    let p = g.S.DocumentPredicate.selects c.args.which.now in
     let ws : List Conditions = map (λ (q : Bor Conditions). q.now) c.in-Some.told.walked.items in
     reads_made g.D.Disk.history (IsAsked home)
     (λ now of (o : Option Told). IfSome o (λ t. AreIdsOf home.number (but_not p (map (λ (q : Bor Conditions). q.now) t.walked.items)) t.ids now of))

@@ -14,7 +14,7 @@ use Rattle.candidate_ids.proofs.telling.put_all_matched.Goals as goal
 
 pub filters-init : goal.filters-init
 filters-init g c =
-    let filters = g.S.Selects.filters c.args.which.now in
+    let filters = g.S.DocumentPredicate.filters c.args.which.now in
     let ws : List Conditions = map (λ (q : Bor Conditions). q.now) c.args.walked.now.items in
     let before = texts_of c.args.ids.now.items in
     reads_none g.D.Disk.history (IsAsked c.args.home.now) (λ now of (_ : Unit {0}). AreToldBut of filters before (filters ++ ws) before) c.args.file.now tt
@@ -22,7 +22,7 @@ filters-init g c =
 
 pub returns-in_default : goal.returns-in_default
 returns-in_default g c =
-    let filters = g.S.Selects.filters c.args.which.now in
+    let filters = g.S.DocumentPredicate.filters c.args.which.now in
     let ws : List Conditions = map (λ (q : Bor Conditions). q.now) c.filters.walked.items in
     let before = texts_of c.args.ids.now.items in
     let mid = texts_of c.filters.ids.items in
@@ -33,7 +33,7 @@ returns-in_default g c =
 pub returns-in_err-found : goal.returns-in_err-found
 returns-in_err-found g c =
     let home = c.args.home.now in
-    let filters = g.S.Selects.filters c.args.which.now in
+    let filters = g.S.DocumentPredicate.filters c.args.which.now in
     let i = c.filters.at in
     let f : Conditions = c.in-Some.filter.now in
     let rest = drop (i + 1) filters in
@@ -53,7 +53,7 @@ returns-in_err-found g c =
 pub returns-in_err-push : goal.returns-in_err-push
 returns-in_err-push g c =
     let home = c.args.home.now in
-    let filters = g.S.Selects.filters c.args.which.now in
+    let filters = g.S.DocumentPredicate.filters c.args.which.now in
     let i = c.filters.at in
     let f : Conditions = c.in-Some.filter.now in
     let rest = drop (i + 1) filters in
@@ -73,7 +73,7 @@ returns-in_err-push g c =
 pub filters-preserved-in_default-2 : goal.filters-preserved-in_default-2
 filters-preserved-in_default-2 g c =
     let home = c.args.home.now in
-    let filters = g.S.Selects.filters c.args.which.now in
+    let filters = g.S.DocumentPredicate.filters c.args.which.now in
     let i = c.filters.at in
     let f : Conditions = c.in-Some.filter.now in
     let rest = drop (i + 1) filters in
@@ -98,7 +98,7 @@ filters-preserved-in_default-2 g c =
 pub returns-in_err-append : goal.returns-in_err-append
 returns-in_err-append g c =
     let home = c.args.home.now in
-    let filters = g.S.Selects.filters c.args.which.now in
+    let filters = g.S.DocumentPredicate.filters c.args.which.now in
     let i = c.filters.at in
     let f : Conditions = c.in-Some.filter.now in
     let rest = drop (i + 1) filters in
@@ -118,7 +118,7 @@ returns-in_err-append g c =
 pub filters-preserved : goal.filters-preserved
 filters-preserved g c =
     let home = c.args.home.now in
-    let filters = g.S.Selects.filters c.args.which.now in
+    let filters = g.S.DocumentPredicate.filters c.args.which.now in
     let i = c.filters.at in
     let f : Conditions = c.in-Some.filter.now in
     let rest = drop (i + 1) filters in
@@ -140,7 +140,7 @@ filters-preserved g c =
 
 pub returns : goal.returns
 returns g c =
-    let filters = g.S.Selects.filters c.args.which.now in
+    let filters = g.S.DocumentPredicate.filters c.args.which.now in
     let ws : List Conditions = map (λ (q : Bor Conditions). q.now) c.filters.walked.items in
     let before = texts_of c.args.ids.now.items in
     let after = texts_of c.filters.ids.items in

@@ -15,8 +15,8 @@ use Rattle.candidate_ids.proofs.telling.told_in.Goals as goal
 pub returns : goal.returns
 returns g c =
     let home = c.args.home.now in
-    let p = g.S.Selects.selects c.args.which.now in
-    let filters = g.S.Selects.filters c.args.which.now in
+    let p = g.S.DocumentPredicate.selects c.args.which.now in
+    let filters = g.S.DocumentPredicate.filters c.args.which.now in
     let ws : List Conditions = map (λ (q : Bor Conditions). q.now) c.put_all_matched.new.walked.items in
     let own = texts_of c.put_ids.new.ids.items in
     let all = texts_of c.put_all_matched.new.ids.items in

@@ -13,7 +13,7 @@ pub documents-preserved : goal.documents-preserved
 documents-preserved c =
     removed_next c.args.edits.now c.documents.edits c.unindex_one.new.edits c.args.number c.args.index.now c.args.documents.now c.documents.document-index
     c.document-item.result
-    c.documents-test.true c.document-item.is c.documents.invariant c.in_ok-unindex_one.ensures.goes
+    c.documents-test.true c.document-item.is c.documents.invariant c.in_ok-unindex_one.ensures.continues
 
 pub returns-in_err-unindex_one-clause-refuses : goal.returns-in_err-unindex_one-clause-refuses
 returns-in_err-unindex_one-clause-refuses c =

@@ -1,6 +1,6 @@
 use Rattle.std.proofs.Common.{◌≡◌, ◌+◌, Some, map, sym, ap, subst}
 use Rattle.btree.specs.Scan.{entry_in}
-use Rattle.opening.specs.Known.{Known}
+use Rattle.opening.specs.TurnStates.{TurnStates}
 use Rattle.opening.specs.Judging.{IsLoadingAs, numbered}
 use Rattle.opening.specs.Loading.{named_as}
 use Rattle.opening.proofs.LoadingLemmas.{document_failed, document_loading, document_taken}
@@ -13,7 +13,7 @@ returns-in-Ok-clause-loading g c =
     let of = c.in-Some.of.now in
     let told : numbered number names ≡ Some (named_as of) =
     subst (λ ns. numbered number (map named_as ns) ≡ Some (named_as of)) c.deref.ensures.value c.in-Some.ensures.some in
-    subst (IsLoadingAs names) (sym (ap (λ (k : Known). k.now) c.change.ensures))
+    subst (IsLoadingAs names) (sym (ap (λ (k : TurnStates). k.now) c.change.ensures))
     (document_loading names c.args.told.now.value.now number (named_as of) (entry_in c.args.entry.now) c.requires told c.in-Ok.document c.in-Ok.ensures.stored)
 
 pub returns-in-Ok-clause-judges : goal.returns-in-Ok-clause-judges
@@ -28,7 +28,7 @@ returns-in-Ok-clause-judges g c =
     rw more (document_taken names c.args.told.now.value.now number (named_as of)
     (entry_in c.args.entry.now) c.requires told g.D.Disk.history loading.documents loading.keys loading.seen c.args.file.now c.judge_document.new.file
     c.in-Ok.document c.in-Ok.keys c.change.new.self.value.now
-    (ap (λ (k : Known). k.now) c.change.ensures) c.in-Ok.ensures.stored c.in-Ok.ensures.judges)
+    (ap (λ (k : TurnStates). k.now) c.change.ensures) c.in-Ok.ensures.stored c.in-Ok.ensures.judges)
 
 pub returns-in-Err-clause-judges : goal.returns-in-Err-clause-judges
 returns-in-Err-clause-judges g c =

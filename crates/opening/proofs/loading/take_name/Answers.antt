@@ -3,7 +3,7 @@ use Rattle.std.specs.Prelude.{OnOk}
 use Rattle.btree.specs.Scan.{entry_in}
 use Rattle.btree.proofs.ListLemmas.{map_append}
 use Rattle.entries.specs.State.{put_collection}
-use Rattle.opening.specs.Known.{Known}
+use Rattle.opening.specs.TurnStates.{TurnStates}
 use Rattle.opening.specs.Judging.{IsLoadingAs, IsName}
 use Rattle.opening.specs.Loading.{named_as}
 use Rattle.opening.proofs.TakingLemmas.{name_loaded}
@@ -28,6 +28,6 @@ returns-clause-loading c =
           ap (map named_as) w.in-Ok-push.ensures.items ∙ map_append named_as old (name ∷ []) in
           subst (λ r. OnOk r (IsLoadingAs (map named_as new) next)) (sym w.result-is)
           (subst (λ ns. IsLoadingAs ns next) (sym names)
-          (subst (IsLoadingAs (map named_as old ++ named_as name ∷ [])) (sym (ap (λ (k : Known). k.now) c.change.ensures)) one))
+          (subst (IsLoadingAs (map named_as old ++ named_as name ∷ [])) (sym (ap (λ (k : TurnStates). k.now) c.change.ensures)) one))
       | in-Err-push w ↦ subst (λ r. OnOk r (IsLoadingAs (map named_as new) next)) (sym w.result-is) tt
     ]

@@ -3,7 +3,7 @@ use Rattle.btree.specs.declared.pages.TreeFault.{TreeFault}
 use Rattle.btree.specs.declared.pages.TreeFault.TheVariants as faults
 use Rattle.btree.specs.Reading.{IsNotFull}
 use Rattle.pager.specs.Calls.{OnlyRead, ReadsPage, tree_fault}
-use Rattle.pager.proofs.ReadLemmas.{found_kept, not_full, read_cause, read_done, read_failed, sheet_in}
+use Rattle.pager.proofs.ReadLemmas.{found_kept, not_full, read_cause, read_done, read_failed, model_in}
 use Rattle.pager.proofs.cached_pages.read_page.Goals as goal
 
 pub returns-in-Some-clause-reads : goal.returns-in-Some-clause-reads
@@ -23,8 +23,8 @@ returns-in-Err-clause-reads g c =
     } in
     subst (λ (f : TreeFault). ReadsPage history c.args.page (Err f) old new c.args.cache.now c.get.new.self) (sym c.tree_fault.ensures)
     (read_failed history old new only c.args.page (tree_fault c.in-Err.fault) c.args.cache.now c.get.new.self c.get.ensures.same
-    (λ k found is. read_cause (history old.disk) (history new.disk) c.in-Err.fault (sheet_in history old c.args.page) found c.in-Err.ensures.looks.cause
-    (c.in-Err.ensures.reads.sheet k) k is))
+    (λ k found is. read_cause (history old.disk) (history new.disk) c.in-Err.fault (model_in history old c.args.page) found c.in-Err.ensures.looks.cause
+    (c.in-Err.ensures.reads.model k) k is))
 
 pub returns-in_default-new-clause-reads : goal.returns-in_default-new-clause-reads
 returns-in_default-new-clause-reads g c =
@@ -51,7 +51,7 @@ returns-clause-reads g c =
       noted = c.read.ensures.reads.noted;
     } in
     read_done history old new only c.args.page c.in-Ok-new.shared c.args.cache.now c.get.new.self c.keep_page.new.cache c.get.ensures.same c.keep_page.ensures
-    (λ k. c.in-Ok.ensures.reads.sheet k ∙ ap Ok (sym c.in-Ok-new.ensures))
+    (λ k. c.in-Ok.ensures.reads.model k ∙ ap Ok (sym c.in-Ok-new.ensures))
 
 pub returns-in-Err-clause-full : goal.returns-in-Err-clause-full
 returns-in-Err-clause-full g c = subst IsNotFull (sym c.tree_fault.ensures) (not_full c.in-Err.fault)

@@ -1,5 +1,5 @@
 use Rattle.std.proofs.Common.{ap, rules, sym, ◌∙◌}
-use Rattle.page.specs.Format.{Sheet}
+use Rattle.page.specs.Format.{PageModel}
 use Rattle.pager.proofs.FindLemmas.{another_there, found_at_place, none_behind, page_at_place}
 use Rattle.pager.proofs.finding.find_page.Goals as goal
 
@@ -13,7 +13,7 @@ returns-then-image-page c =
     let places = c.args.places.now in
     found_at_place made places c.requires c.args.page c.find_place-at.result c.find_place-at.ensures c.index-made-places.result (search rules)
     (page_at_place made places c.find_place-at.result c.index-made-places.result c.requires.inside (search rules) c.index-made-places.is)
-    (ap (λ (m : Sheet). m.page) (sym c.image.ensures) ∙ c.if-image-page.true)
+    (ap (λ (m : PageModel). m.page) (sym c.image.ensures) ∙ c.if-image-page.true)
 
 pub returns-else-image-page : goal.returns-else-image-page
 returns-else-image-page c =
@@ -21,4 +21,4 @@ returns-else-image-page c =
     let places = c.args.places.now in
     another_there made places c.requires c.args.page c.find_place-at.result c.find_place-at.ensures c.index-made-places.result (search rules)
     (page_at_place made places c.find_place-at.result c.index-made-places.result c.requires.inside (search rules) c.index-made-places.is)
-    (λ same. c.if-image-page.false (ap (λ (m : Sheet). m.page) c.image.ensures ∙ same))
+    (λ same. c.if-image-page.false (ap (λ (m : PageModel). m.page) c.image.ensures ∙ same))

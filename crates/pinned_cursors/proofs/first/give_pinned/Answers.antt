@@ -86,7 +86,7 @@ returns-clause-gives g c =
     asked refl refl refl c.in_ok-given.given reads some.0 some.1
     (listed (drop c.in_ok-given.given.count (texts_of c.args.left.texts.items)))
     (λ passing k. behind_left g.D.Disk.history c.args.version c.args.left.number c.args.left.projection.now (texts_of c.args.left.texts.items)
-    c.args.rest.value c.args.file.now c.batch_of_listed.new.file passing c.in_ok-given.given.count reads.on)
+    c.args.rest.value c.args.file.now c.batch_of_listed.new.file passing c.in_ok-given.given.count reads.extends)
     (c.unwrap_or.ensures ∙ ap (λ (o : Option ℕ). unwrap_or o 0) number.1 ∙ next)
     (subst (λ (n : ℕ). n < 2 ^ 63) next
     (if_some c.next_number-number.result number.0 (λ (n : ℕ). n < 2 ^ 63) number.1 c.next_number-number.ensures.below))

@@ -36,7 +36,7 @@ returns-in_err-read-clause-gives g c =
 pub returns-in_default-clause-gives : goal.returns-in_default-clause-gives
 returns-in_default-clause-gives g c =
     let reads = c.in_ok-read.ensures.reads in
-    record { on = reads.on; unchanged = reads.unchanged; state = reads.same; same = refl }
+    record { extends = reads.extends; unchanged = reads.unchanged; state = reads.same; same = refl }
 
 -- all was given
 pub returns-in_default-next-clause-gives : goal.returns-in_default-next-clause-gives

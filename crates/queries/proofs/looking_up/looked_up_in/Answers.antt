@@ -12,7 +12,7 @@ use Rattle.queries.proofs.looking_up.looked_up_in.Goals as goal
 pub returns-in_err-ids-clause-reads : goal.returns-in_err-ids-clause-reads
 returns-in_err-ids-clause-reads g c =
     let home = c.args.home.now in
-    let p = g.S.Selects.selects c.args.which.now in
+    let p = g.S.DocumentPredicate.selects c.args.which.now in
     let e = err_from_is_err_and c.from_residual.result c.from_residual.ensures.1 in
     rw (e.1, e.2)
     (reads_refused g.D.Disk.history (IsAsked home)
@@ -23,7 +23,7 @@ returns-in_err-ids-clause-reads g c =
 pub returns-in_err-found-in-Some-clause-reads : goal.returns-in_err-found-in-Some-clause-reads
 returns-in_err-found-in-Some-clause-reads g c =
     let home = c.args.home.now in
-    let p = g.S.Selects.selects c.args.which.now in
+    let p = g.S.DocumentPredicate.selects c.args.which.now in
     let ids : List (List ℕ) = texts_of c.deref.result.now in
     let e = err_from_is_err_and c.from_residual-in_err-found-in-Some.result c.from_residual-in_err-found-in-Some.ensures.1 in
     rw (e.1, e.2)
@@ -45,7 +45,7 @@ returns-in_err-found-in-Some-clause-reads g c =
 pub returns-in_ok-found-in-Some-clause-reads : goal.returns-in_ok-found-in-Some-clause-reads
 returns-in_ok-found-in-Some-clause-reads g c =
     let home = c.args.home.now in
-    let p = g.S.Selects.selects c.args.which.now in
+    let p = g.S.DocumentPredicate.selects c.args.which.now in
     let ids : List (List ℕ) = texts_of c.deref.result.now in
     reads_made g.D.Disk.history (IsAsked home) (λ now of (found : Vec Pairs Global). found.items ≡ take c.args.most (filter p of.documents))
     (λ now of (o : Option (Vec Pairs Global)). IfSome o (λ found. found.items ≡ take c.args.most (filter p of.documents)))
@@ -66,7 +66,7 @@ returns-in_ok-found-in-Some-clause-reads g c =
 pub returns-in-None-clause-reads : goal.returns-in-None-clause-reads
 returns-in-None-clause-reads g c =
     let home = c.args.home.now in
-    let p = g.S.Selects.selects c.args.which.now in
+    let p = g.S.DocumentPredicate.selects c.args.which.now in
     reads_made g.D.Disk.history (IsAsked home)
     (λ now of (o : Option (Vec (Vec ℕ Global) Global)). IfSome o (λ ids. AreIdsOf home.number p (texts_of ids.items) now of))
     (λ now of (o : Option (Vec Pairs Global)). IfSome o (λ found. found.items ≡ take c.args.most (filter p of.documents)))

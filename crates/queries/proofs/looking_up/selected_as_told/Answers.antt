@@ -18,7 +18,7 @@ use Rattle.queries.proofs.looking_up.selected_as_told.Goals as goal
 pub returns-then-is_empty-clause-reads : goal.returns-then-is_empty-clause-reads
 returns-then-is_empty-clause-reads g c =
     let home = c.args.home.now in
-    let p = g.S.Selects.selects c.args.which.now in
+    let p = g.S.DocumentPredicate.selects c.args.which.now in
     let told = c.args.told.now in
     let ws : List Conditions = map (λ (q : Bor Conditions). q.now) told.walked.items in
     let right : List Collection → Collection → Vec Pairs Global → Type 0 = λ now of found. found.items ≡ take c.args.most (filter p of.documents) in
@@ -32,7 +32,7 @@ returns-then-is_empty-clause-reads g c =
 pub returns-then-is_empty-2-clause-reads : goal.returns-then-is_empty-2-clause-reads
 returns-then-is_empty-2-clause-reads g c =
     let home = c.args.home.now in
-    let p = g.S.Selects.selects c.args.which.now in
+    let p = g.S.DocumentPredicate.selects c.args.which.now in
     let right : List Collection → Collection → Vec Pairs Global → Type 0 = λ now of found. found.items ≡ take c.args.most (filter p of.documents) in
     reads_within g.D.Disk.history (IsToldOf home p c.args.told.now) (IsAsked home) right right c.args.file.now c.scanned.new.file c.scanned.result
     c.scanned.ensures.reads (λ now of is. is.asked) (λ now of found is made. made)
@@ -40,7 +40,7 @@ returns-then-is_empty-2-clause-reads g c =
 pub returns-clause-reads : goal.returns-clause-reads
 returns-clause-reads g c =
     let home = c.args.home.now in
-    let p = g.S.Selects.selects c.args.which.now in
+    let p = g.S.DocumentPredicate.selects c.args.which.now in
     let told = c.args.told.now in
     let ws : List Conditions = map (λ (q : Bor Conditions). q.now) told.walked.items in
     let walk : List Conditions = map (λ (q : Bor Conditions). q.now) c.deref.result.now in

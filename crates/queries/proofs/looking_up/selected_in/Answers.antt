@@ -10,7 +10,7 @@ use Rattle.queries.proofs.looking_up.selected_in.Goals as goal
 
 pub returns-in_err-found-clause-reads : goal.returns-in_err-found-clause-reads
 returns-in_err-found-clause-reads g c =
-    let p = g.S.Selects.selects c.args.which.now in
+    let p = g.S.DocumentPredicate.selects c.args.which.now in
     let e = err_from_is_err_and c.from_residual.result c.from_residual.ensures.1 in
     rw (e.1, e.2)
     (reads_refused g.D.Disk.history (IsAsked c.args.home.now) (λ now of (found : Vec Pairs Global). found.items ≡ take c.args.most (filter p of.documents))
@@ -19,7 +19,7 @@ returns-in_err-found-clause-reads g c =
 
 pub returns-in_err-shared_all-clause-reads : goal.returns-in_err-shared_all-clause-reads
 returns-in_err-shared_all-clause-reads g c =
-    let p = g.S.Selects.selects c.args.which.now in
+    let p = g.S.DocumentPredicate.selects c.args.which.now in
     let e = err_from_is_err_and c.from_residual-in_err-shared_all.result c.from_residual-in_err-shared_all.ensures.1 in
     rw e.1
     (reads_memory g.D.Disk.history (IsAsked c.args.home.now) (λ now of (found : Vec Pairs Global). found.items ≡ take c.args.most (filter p of.documents))
@@ -28,7 +28,7 @@ returns-in_err-shared_all-clause-reads g c =
 
 pub returns-clause-reads : goal.returns-clause-reads
 returns-clause-reads g c =
-    let p = g.S.Selects.selects c.args.which.now in
+    let p = g.S.DocumentPredicate.selects c.args.which.now in
     reads_made g.D.Disk.history (IsAsked c.args.home.now) (λ now of (found : Vec Pairs Global). found.items ≡ take c.args.most (filter p of.documents))
     (λ now of (found : Vec Pairs Global). found.items ≡ take c.args.most (filter p of.documents)) c.args.file.now c.spelled_in.new.file c.in_ok-found.found
     c.in_ok-shared_all.field-0 c.in_ok-found.ensures.reads

@@ -15,7 +15,7 @@ use Rattle.queries.proofs.looking_up.spelled_in.Goals as goal
 pub returns-in_err-told-clause-reads : goal.returns-in_err-told-clause-reads
 returns-in_err-told-clause-reads g c =
     let home = c.args.home.now in
-    let p = g.S.Selects.selects c.args.which.now in
+    let p = g.S.DocumentPredicate.selects c.args.which.now in
     let e = err_from_is_err_and c.from_residual.result c.from_residual.ensures.1 in
     rw (e.1, e.2)
     (reads_refused g.D.Disk.history (IsAsked home)
@@ -26,7 +26,7 @@ returns-in_err-told-clause-reads g c =
 pub returns-in_default-clause-reads : goal.returns-in_default-clause-reads
 returns-in_default-clause-reads g c =
     let home = c.args.home.now in
-    let p = g.S.Selects.selects c.args.which.now in
+    let p = g.S.DocumentPredicate.selects c.args.which.now in
     reads_behind g.D.Disk.history (IsAsked home)
     (λ now of (o : Option Told). IfSome o (λ t. AreIdsOf home.number (but_not p (map (λ (q : Bor Conditions). q.now) t.walked.items)) t.ids now of))
     (IsAsked home) (λ now of (found : Vec Pairs Global). found.items ≡ take c.args.most (filter p of.documents))
@@ -37,7 +37,7 @@ returns-in_default-clause-reads g c =
 pub returns-clause-reads : goal.returns-clause-reads
 returns-clause-reads g c =
     let home = c.args.home.now in
-    let p = g.S.Selects.selects c.args.which.now in
+    let p = g.S.DocumentPredicate.selects c.args.which.now in
     reads_behind g.D.Disk.history (IsAsked home)
     (λ now of (o : Option Told). IfSome o (λ t. AreIdsOf home.number (but_not p (map (λ (q : Bor Conditions). q.now) t.walked.items)) t.ids now of))
     (IsToldOf home p c.in-Some.told) (λ now of (found : Vec Pairs Global). found.items ≡ take c.args.most (filter p of.documents))

@@ -1,7 +1,7 @@
 use Rattle.std.proofs.Common.{◌≡◌, ◌∙◌, Bool, false, subst}
 use Rattle.page.specs.History.{now, reads}
 use Rattle.roots.specs.HeldFile.{FitsTree}
-use Rattle.roots.specs.Image.{sheet_at}
+use Rattle.roots.specs.Image.{model_at}
 use Rattle.roots.specs.Store.{disk_history, durable_root}
 use Rattle.roots.specs.declared.root.Root.{Root}
 use Rattle.roots.proofs.HeldFileLemmas.{unfit}
@@ -17,4 +17,4 @@ returns-then-not-branch-clause-list g c =
     let fits : FitsTree root tree list.pages.items list.named.items false =
     subst (λ (r : Root). FitsTree r tree list.pages.items list.named.items false) root_is
     (subst (λ (b : Bool). FitsTree c.root.result tree list.pages.items list.named.items b) c.if-not-branch.true c.in_ok-fits_tree.ensures) in
-    λ k. unfit (sheet_at (reads (now (disk_history history c.args.store.now))) root) root tree list (c.in-Ok.ensures.list k) fits
+    λ k. unfit (model_at (reads (now (disk_history history c.args.store.now))) root) root tree list (c.in-Ok.ensures.list k) fits

@@ -13,7 +13,7 @@ returns-in_err-write_shared-clause-any_moment g c =
     let inv = c.loop-shared.invariant in
     let e = c.write_shared.ensures in
     moments_more h0 h1 h2 c.args.made.now _
-    (λ k here. on_pages_at c.args.made.now c.loop-shared.shared-index k c.shared-item.result c.shared-item.is (omega arith) here) e.on inv.others e.others
+    (λ k here. on_pages_at c.args.made.now c.loop-shared.shared-index k c.shared-item.result c.shared-item.is (omega arith) here) e.extends inv.others e.others
     inv.any_moment e.any_moment
 
 pub returns-in_err-write_shared-clause-others : goal.returns-in_err-write_shared-clause-others
@@ -24,7 +24,7 @@ returns-in_err-write_shared-clause-others g c =
     let inv = c.loop-shared.invariant in
     let e = c.write_shared.ensures in
     others_more h0 h1 h2 c.args.made.now _
-    (λ k here. on_pages_at c.args.made.now c.loop-shared.shared-index k c.shared-item.result c.shared-item.is (omega arith) here) e.on inv.others e.others
+    (λ k here. on_pages_at c.args.made.now c.loop-shared.shared-index k c.shared-item.result c.shared-item.is (omega arith) here) e.extends inv.others e.others
 
 pub returns-in_err-write_shared-clause-calls : goal.returns-in_err-write_shared-clause-calls
 returns-in_err-write_shared-clause-calls g c =
@@ -37,7 +37,7 @@ returns-in_err-write_shared-clause-calls g c =
       clear = λ keeps. search rules;
       most = λ keeps.
           let one : h2.clock ≤ h1.clock + 8 = e.calls.most keeps in
-          let so_far : h1.clock ≡ h0.clock + 8 * c.loop-shared.shared-index = c.loop-shared.invariant.calls (e.on.kept keeps) in omega arith;
+          let so_far : h1.clock ≡ h0.clock + 8 * c.loop-shared.shared-index = c.loop-shared.invariant.calls (e.extends.kept keeps) in omega arith;
     }
 
 pub loop-shared-preserved : goal.loop-shared-preserved
@@ -51,18 +51,18 @@ loop-shared-preserved g c =
     let i = c.loop-shared.shared-index in
     let x = c.shared-item.result in
     record {
-      on = goes_further h0 h1 h2 inv.on e.on;
+      extends = goes_further h0 h1 h2 inv.extends e.extends;
       calls = λ keeps.
           let one : h2.clock ≡ h1.clock + 8 = c.in_ok-write_shared.ensures.calls.done keeps in
-          let so_far : h1.clock ≡ h0.clock + 8 * i = inv.calls (e.on.kept keeps) in omega arith;
-      clear = λ keeps. c.in_ok-write_shared.ensures.calls.clear keeps ∙ inv.clear (e.on.kept keeps);
+          let so_far : h1.clock ≡ h0.clock + 8 * i = inv.calls (e.extends.kept keeps) in omega arith;
+      clear = λ keeps. c.in_ok-write_shared.ensures.calls.clear keeps ∙ inv.clear (e.extends.kept keeps);
       any_moment =
           moments_more h0 h1 h2 made _
-          (λ k here. on_pages_at made i k x c.shared-item.is (omega arith) here) e.on inv.others e.others inv.any_moment e.any_moment;
-      others = others_more h0 h1 h2 made _ (λ k here. on_pages_at made i k x c.shared-item.is (omega arith) here) e.on inv.others e.others;
+          (λ k here. on_pages_at made i k x c.shared-item.is (omega arith) here) e.extends inv.others e.others inv.any_moment e.any_moment;
+      others = others_more h0 h1 h2 made _ (λ k here. on_pages_at made i k x c.shared-item.is (omega arith) here) e.extends inv.others e.others;
       written = λ keeps lie.
           written_step (reads (now h1)) (reads (now h2)) made i x c.shared-item.is lie (omega arith)
-          (λ k outside. ap (λ (y : Sector). y.read) (e.others keeps k outside)) (inv.written (e.on.kept keeps) lie)
+          (λ k outside. ap (λ (y : Sector). y.read) (e.others keeps k outside)) (inv.written (e.extends.kept keeps) lie)
           (c.in_ok-write_shared.ensures.written keeps);
     }
 

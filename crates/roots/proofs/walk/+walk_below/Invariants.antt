@@ -3,7 +3,7 @@ use Rattle.std.specs.Option.{option_map}
 use Rattle.page.specs.History.{KeepsWord}
 use Rattle.page.specs.Crash.{HasRead}
 use Rattle.btree.specs.Calls.{IsPart}
-use Rattle.btree.specs.Tree.{Body, arm_of, pages_of}
+use Rattle.btree.specs.Tree.{Body, pivot_of, pages_of}
 use Rattle.roots.specs.Found.{HasFoundFan}
 use Rattle.roots.specs.Walk.{CanReach, IsMarked, pages_in, pages_so_far}
 use Rattle.roots.proofs.walk.+walk_below.Given as goal
@@ -20,8 +20,8 @@ invariant-loop-i g l =
       only : HasRead start h;
       marks : (limit : ℕ) → IsMarked limit l.initial.reached → IsMarked limit l.reached;
       deep : l.depth + l.level < 31;
-      so_far : KeepsWord h → (d : ℕ) (twigs : Body (suc d)) → l.branch ≡ map arm_of twigs
-          → IsPart (pages_in start l.root) l.page l.level (suc d) l.low high twigs → CanReach l.root.pages l.initial.reached (pages_of (suc d) twigs)
-          → (0 < l.i → l.depth ≡ d) × (pages_so_far l.reached ≡ pages_so_far l.initial.reached ++ pages_of (suc d) (take l.i twigs));
+      so_far : KeepsWord h → (d : ℕ) (subtrees : Body (suc d)) → l.branch ≡ map pivot_of subtrees
+          → IsPart (pages_in start l.root) l.page l.level (suc d) l.low high subtrees → CanReach l.root.pages l.initial.reached (pages_of (suc d) subtrees)
+          → (0 < l.i → l.depth ≡ d) × (pages_so_far l.reached ≡ pages_so_far l.initial.reached ++ pages_of (suc d) (take l.i subtrees));
       found : KeepsWord h → HasFoundFan (pages_in start l.root) l.depth l.low high l.branch l.i (pages_so_far l.initial.reached) (pages_so_far l.reached);
     }

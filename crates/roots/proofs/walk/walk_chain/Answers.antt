@@ -2,12 +2,12 @@ use Rattle.std.proofs.Common.{rules, arith, ◌≡◌, ◌<◌, ℕ, [], ◌∷�
 use Rattle.page.specs.Content.{chain}
 use Rattle.page.specs.History.{Sector, now, reads}
 use Rattle.page.specs.View.{content_of}
-use Rattle.page.specs.ImageView.{sheet_of}
+use Rattle.page.specs.ImageView.{model_of}
 use Rattle.std.specs.Prelude.{min}
 use Rattle.page.proofs.Moments.{read_further}
 use Rattle.btree.specs.Store.{IsAt}
 use Rattle.btree.specs.Tree.{next_of}
-use Rattle.roots.specs.Image.{sheet_at}
+use Rattle.roots.specs.Image.{model_at}
 use Rattle.roots.specs.Walk.{CanReach, pages_in, pages_so_far}
 use Rattle.roots.proofs.FoundLemmas.{chain_begins, chain_found, chain_more, page_there}
 use Rattle.roots.proofs.ImageLemmas.{live_below}
@@ -47,34 +47,34 @@ returns-in_err-image-clause-reaches g c keeps links value has next long can =
     let s = pages_in h0 c.args.root in
     let inv = c.loop-left.invariant in
     let page = c.loop-left.page in
-    let k1 = c.read_sheet.ensures.looks.reads.on.kept keeps in
+    let k1 = c.read_model.ensures.looks.reads.extends.kept keeps in
     let n : IsNext s links c.loop-left.left page (pages_so_far c.args.reached.now) (pages_so_far c.loop-left.reached) =
     next_link s links c.loop-left.left page (pages_so_far c.args.reached.now) (pages_so_far c.loop-left.reached) (omega arith)
     (inv.so_far k1 links value has next long) in
     reaches_failed links c.args.reached.now c.note.new.self c.from_residual-in_err-image.result c.in_err-image.field-0.0 (search rules)
-    (not_damaged (sheet_at (reads (now h0)) c.args.root) (sheet_at (reads (now h1)) c.args.root) page
+    (not_damaged (model_at (reads (now h0)) c.args.root) (model_at (reads (now h1)) c.args.root) page
     (chain (next_of n.back) (take 4076 n.rest)) c.in_err-image.field-0.0 n.at.live n.at.holds
-    (ap (λ (t : ℕ → Sector). sheet_at (reads t) c.args.root page) (inv.only.reads.same k1)) (c.in_err-image.ensures.sheet keeps))
+    (ap (λ (t : ℕ → Sector). model_at (reads t) c.args.root page) (inv.only.reads.same k1)) (c.in_err-image.ensures.model keeps))
 
 pub returns-in_default : goal.returns-in_default
 returns-in_default g c =
     let h0 = g.D.Disk.history c.args.disk.now in
     let h1 = g.D.Disk.history c.loop-left.disk in
-    let h2 = g.D.Disk.history c.read_sheet.new.disk in
+    let h2 = g.D.Disk.history c.read_model.new.disk in
     record {
       looks = looks_later h0 h1 h2 _ c.loop-left.invariant.only (looks_damaged h1 h2 (has_read h1 h2 _ c.in_ok-image.ensures.looks));
       reaches = λ keeps links value has next long can damaged.
           let s = pages_in h0 c.args.root in
           let inv = c.loop-left.invariant in
           let page = c.loop-left.page in
-          let k1 = c.read_sheet.ensures.looks.reads.on.kept keeps in
+          let k1 = c.read_model.ensures.looks.reads.extends.kept keeps in
           let n : IsNext s links c.loop-left.left page (pages_so_far c.args.reached.now) (pages_so_far c.loop-left.reached) =
           next_link s links c.loop-left.left page (pages_so_far c.args.reached.now) (pages_so_far c.loop-left.reached) (omega arith)
           (inv.so_far k1 links value has next long) in
           no_chain c.in_ok-image.image.content c.in_default.not-Chain (next_of n.back) (take 4076 n.rest)
-          (read_content (sheet_at (reads (now h0)) c.args.root) page (chain (next_of n.back) (take 4076 n.rest))
-          (sheet_of c.in_ok-image.image) n.at.live n.at.holds
-          (sym (ap (λ (t : ℕ → Sector). sheet_at (reads t) c.args.root page) (inv.only.reads.same k1)) ∙ c.in_ok-image.ensures.sheet keeps));
+          (read_content (model_at (reads (now h0)) c.args.root) page (chain (next_of n.back) (take 4076 n.rest))
+          (model_of c.in_ok-image.image) n.at.live n.at.holds
+          (sym (ap (λ (t : ℕ → Sector). model_at (reads t) c.args.root page) (inv.only.reads.same k1)) ∙ c.in_ok-image.ensures.model keeps));
       marks = tt;
       found = λ keeps. tt;
     }
@@ -85,13 +85,13 @@ returns-then-len-min-clause-reaches g c keeps links value has next long can dama
     let s = pages_in h0 c.args.root in
     let inv = c.loop-left.invariant in
     let page = c.loop-left.page in
-    let k1 = c.read_sheet.ensures.looks.reads.on.kept keeps in
+    let k1 = c.read_model.ensures.looks.reads.extends.kept keeps in
     let n : IsNext s links c.loop-left.left page (pages_so_far c.args.reached.now) (pages_so_far c.loop-left.reached) =
     next_link s links c.loop-left.left page (pages_so_far c.args.reached.now) (pages_so_far c.loop-left.reached) (omega arith)
     (inv.so_far k1 links value has next long) in
     let content : content_of c.in_ok-image.image.content ≡ chain (next_of n.back) (take 4076 n.rest) =
-    read_content (sheet_at (reads (now h0)) c.args.root) page (chain (next_of n.back) (take 4076 n.rest)) (sheet_of c.in_ok-image.image) n.at.live n.at.holds
-    (sym (ap (λ (t : ℕ → Sector). sheet_at (reads t) c.args.root page) (inv.only.reads.same k1)) ∙ c.in_ok-image.ensures.sheet keeps) in
+    read_content (model_at (reads (now h0)) c.args.root) page (chain (next_of n.back) (take 4076 n.rest)) (model_of c.in_ok-image.image) n.at.live n.at.holds
+    (sym (ap (λ (t : ℕ → Sector). model_at (reads t) c.args.root page) (inv.only.reads.same k1)) ∙ c.in_ok-image.ensures.model keeps) in
     let part : length c.in-Chain.bytes.items ≡ min c.loop-left.left 4076 =
     part_long c.in-Chain.next (next_of n.back) c.loop-left.left c.in-Chain.bytes.items n.rest (sym (ap content_of c.in-Chain.is) ∙ content) n.long in
     c.if-len-min.true (omega (arith, part, c.len.ensures, c.min.ensures, c.in-Chain.bytes.ok))
@@ -100,7 +100,7 @@ pub loop-left-preserved-else-len-min-3 : goal.loop-left-preserved-else-len-min-3
 loop-left-preserved-else-len-min-3 g c =
     let h0 = g.D.Disk.history c.args.disk.now in
     let h1 = g.D.Disk.history c.loop-left.disk in
-    let h2 = g.D.Disk.history c.read_sheet.new.disk in
+    let h2 = g.D.Disk.history c.read_model.new.disk in
     let s = pages_in h0 c.args.root in
     let inv = c.loop-left.invariant in
     let page = c.loop-left.page in
@@ -108,24 +108,24 @@ loop-left-preserved-else-len-min-3 g c =
       only = read_further h0 h1 h2 inv.only (has_read h1 h2 _ c.in_ok-image.ensures.looks);
       marks = λ limit marked. c.in_ok-note.ensures.marks limit (inv.marks limit marked);
       so_far = λ keeps links value has next long.
-          let k1 = c.read_sheet.ensures.looks.reads.on.kept keeps in
+          let k1 = c.read_model.ensures.looks.reads.extends.kept keeps in
           let n : IsNext s links c.loop-left.left page (pages_so_far c.args.reached.now) (pages_so_far c.loop-left.reached) =
           next_link s links c.loop-left.left page (pages_so_far c.args.reached.now) (pages_so_far c.loop-left.reached) (omega arith)
           (inv.so_far k1 links value has next long) in
           let content : content_of c.in_ok-image.image.content ≡ chain (next_of n.back) (take 4076 n.rest) =
-          read_content (sheet_at (reads (now h0)) c.args.root) page (chain (next_of n.back) (take 4076 n.rest))
-          (sheet_of c.in_ok-image.image) n.at.live n.at.holds
-          (sym (ap (λ (t : ℕ → Sector). sheet_at (reads t) c.args.root page) (inv.only.reads.same k1)) ∙ c.in_ok-image.ensures.sheet keeps) in
+          read_content (model_at (reads (now h0)) c.args.root) page (chain (next_of n.back) (take 4076 n.rest))
+          (model_of c.in_ok-image.image) n.at.live n.at.holds
+          (sym (ap (λ (t : ℕ → Sector). model_at (reads t) c.args.root page) (inv.only.reads.same k1)) ∙ c.in_ok-image.ensures.model keeps) in
           link_more s links c.loop-left.left (c.loop-left.left - c.len-left.result) page c.in-Chain.next c.in-Chain.bytes.items
           (pages_so_far c.args.reached.now) (pages_so_far c.loop-left.reached) (pages_so_far c.note.new.self) n
           (sym (ap content_of c.in-Chain.is) ∙ content) (omega (arith, c.len-left.ensures, c.in-Chain.bytes.ok)) c.in_ok-note.ensures.noted;
       found = λ keeps.
-          let k1 = c.read_sheet.ensures.looks.reads.on.kept keeps in
-          let sheets : sheet_at (reads (now h1)) c.args.root page ≡ sheet_at (reads (now h0)) c.args.root page =
-          ap (λ (t : ℕ → Sector). sheet_at (reads t) c.args.root page) (inv.only.reads.same k1) in
+          let k1 = c.read_model.ensures.looks.reads.extends.kept keeps in
+          let models : model_at (reads (now h1)) c.args.root page ≡ model_at (reads (now h0)) c.args.root page =
+          ap (λ (t : ℕ → Sector). model_at (reads t) c.args.root page) (inv.only.reads.same k1) in
           let at : IsAt s page (chain c.in-Chain.next c.in-Chain.bytes.items) =
           subst (IsAt s page) (ap content_of c.in-Chain.is)
-          (page_there (reads (now h0)) c.args.root page (sheet_of c.in_ok-image.image) (sym sheets ∙ c.in_ok-image.ensures.sheet keeps)) in
+          (page_there (reads (now h0)) c.args.root page (model_of c.in_ok-image.image) (sym models ∙ c.in_ok-image.ensures.model keeps)) in
           let part : length c.in-Chain.bytes.items ≡ min c.loop-left.left 4076 =
           omega (arith, c.if-len-min.false, c.len.ensures, c.min.ensures, c.in-Chain.bytes.ok) in
           chain_more s c.args.first c.args.len c.loop-left.left (c.loop-left.left - c.len-left.result) page c.in-Chain.next c.in-Chain.bytes.items

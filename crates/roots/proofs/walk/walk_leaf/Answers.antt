@@ -20,7 +20,7 @@ pub returns-in_err-walk_value-clause-reaches : goal.returns-in_err-walk_value-cl
 returns-in_err-walk_value-clause-reaches g c keeps pairs e shown between can =
     let inv = c.loop-i.invariant in
     let i = c.loop-i.i in
-    let k1 = c.walk_value.ensures.looks.reads.on.kept keeps in
+    let k1 = c.walk_value.ensures.looks.reads.extends.kept keeps in
     let a : At pairs i = at_place pairs i (within c.args.leaf.now pairs i e (omega arith)) in
     let cell : item_of a.mid ≡ cell_item c.cell-cell.result =
     got_there pairs i a item_of c.args.leaf.now (cell_item c.cell-cell.result) e c.cell-cell.ensures in
@@ -42,7 +42,7 @@ loop-i-preserved g c =
           (g.D.Disk.history c.walk_value.new.disk) inv.only (has_read _ _ _ c.in_ok-walk_value.ensures.looks);
       marks = λ limit marked. c.in_ok-walk_value.ensures.marks limit (inv.marks limit marked);
       so_far = λ keeps pairs e shown between can.
-          let k1 = c.walk_value.ensures.looks.reads.on.kept keeps in
+          let k1 = c.walk_value.ensures.looks.reads.extends.kept keeps in
           let a : At pairs i = at_place pairs i (within c.args.leaf.now pairs i e (omega arith)) in
           let cell : item_of a.mid ≡ cell_item c.cell-cell.result =
           got_there pairs i a item_of c.args.leaf.now (cell_item c.cell-cell.result) e c.cell-cell.ensures in
@@ -57,7 +57,7 @@ loop-i-preserved g c =
           (pages_so_far c.walk_value.new.reached) so_far
           (c.in_ok-walk_value.ensures.reaches keeps a.mid (ap (λ (x : Item). x.place) cell) has there);
       found = λ keeps.
-          let k1 = c.walk_value.ensures.looks.reads.on.kept keeps in
+          let k1 = c.walk_value.ensures.looks.reads.extends.kept keeps in
           let there : HasFoundValue (pages_in (g.D.Disk.history c.args.disk.now) c.args.root) (cell_item c.cell-cell.result).place
           (pages_so_far c.loop-i.reached) (pages_so_far c.walk_value.new.reached) =
           subst (λ (s : Store). HasFoundValue s (cell_item c.cell-cell.result).place (pages_so_far c.loop-i.reached) (pages_so_far c.walk_value.new.reached))

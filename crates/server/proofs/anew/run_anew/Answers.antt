@@ -24,5 +24,5 @@ returns-in-Ok c =
       empty = λ _. opened.alone
           ∙ ap (λ (cs : List Collection). let s : ServerState = record { world = record new_world { collections = cs }; connections = [] } in s)
           (anew_empty disk first opened even odd);
-      word = anew_word disk first opened even odd last c.new.ensures.fresh.word drives.on;
+      word = anew_word disk first opened even odd last c.new.ensures.fresh.word drives.extends;
     }

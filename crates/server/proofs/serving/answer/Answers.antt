@@ -39,8 +39,8 @@ returns-in-Err-clause-answer g c k read gives =
     (world c.args.engine.now) c.args.id c.in-Err.fault c.body_refusal.result read c.body_refusal.ensures.memory c.body_refusal.ensures.other
     (subst (λ body. Gives bson_faults.Memory (λ d. d) body read) c.in-Err.is gives)
 
-pub returns-in-Err-clause-goes : goal.returns-in-Err-clause-goes
-returns-in-Err-clause-goes g c = continues_itself g.D.Disk.history c.args.engine.now
+pub returns-in-Err-clause-continues : goal.returns-in-Err-clause-continues
+returns-in-Err-clause-continues g c = continues_itself g.D.Disk.history c.args.engine.now
 
 pub returns-in-Ok-clause-quiet : goal.returns-in-Ok-clause-quiet
 returns-in-Ok-clause-quiet g c = λ k read gives wrote.

@@ -2,7 +2,7 @@ use Rattle.std.proofs.Common.{◌≡◌, length, refl, sym, subst, ap, ◌∙◌
 use Rattle.std.proofs.lemmas.List.{length-map}
 use Rattle.std.specs.Prelude.{Result, Err}
 use Rattle.roots.specs.declared.store.CommitFault.{CommitFault}
-use Rattle.engine.specs.Committing.{Commits}
+use Rattle.engine.specs.Committing.{CommitsTurn}
 use Rattle.op_msg.specs.Request.{respelled}
 use Rattle.server.specs.Turn.{connections_taken, refused_frames}
 use Rattle.server.specs.Taking.{HaveRoom, full_body, respelled_frames}
@@ -29,12 +29,12 @@ returns-then-not-serve_connections g c =
     let e1 = c.serve_connections.new.engine in
     let serve = c.serve_connections.ensures in
     let begins : Begins history e0 =
-    record { sound = c.requires.sound; running = c.requires.running; idle = c.requires.idle; rests = c.requires.rests } in
+    record { sound = c.requires.sound; running = c.requires.running; idle = c.requires.idle; clean = c.requires.clean } in
     let served : Served history e0 e1 c.serve_connections.result (frames_in c.new-replies.result.items) (frames_in c.serve_connections.new.frames.items) ls =
     subst (Served history e0 e1 c.serve_connections.result (frames_in c.new-replies.result.items) (frames_in c.serve_connections.new.frames.items))
     c.deref_mut.ensures.value
     (record {
-      goes = serve.goes;
+      continues = serve.continues;
       sound = serve.sound;
       start = serve.turn_start;
       serves = serve.serves;
@@ -43,7 +43,7 @@ returns-then-not-serve_connections g c =
     }) in
     let undid = c.undo_turn.ensures in
     undone history e0 e1 c.undo_turn.new.self begins ls _ _ _ _ served took c.args.refusals c.requires.refusals undid.sound undid.disk
-    undid.running undid.generation undid.takes undid.reads undid.world undid.turn_start undid.rests undid.rested
+    undid.running undid.generation undid.takes undid.reads undid.world undid.turn_start undid.clean undid.rested
 
 pub returns-in-Ok : goal.returns-in-Ok
 returns-in-Ok g c =
@@ -56,12 +56,12 @@ returns-in-Ok g c =
     let e1 = c.serve_connections.new.engine in
     let serve = c.serve_connections.ensures in
     let begins : Begins history e0 =
-    record { sound = c.requires.sound; running = c.requires.running; idle = c.requires.idle; rests = c.requires.rests } in
+    record { sound = c.requires.sound; running = c.requires.running; idle = c.requires.idle; clean = c.requires.clean } in
     let served : Served history e0 e1 c.serve_connections.result (frames_in c.new-replies.result.items) (frames_in c.serve_connections.new.frames.items) ls =
     subst (Served history e0 e1 c.serve_connections.result (frames_in c.new-replies.result.items) (frames_in c.serve_connections.new.frames.items))
     c.deref_mut.ensures.value
     (record {
-      goes = serve.goes;
+      continues = serve.continues;
       sound = serve.sound;
       start = serve.turn_start;
       serves = serve.serves;
@@ -70,7 +70,7 @@ returns-in-Ok g c =
     }) in
     done history e0 e1 c.commit_turn.new.self begins ls _ _ _ _ served took c.serve_connections.new.frames (search rules)
     (ap frames_in c.new-replies.ensures.items) refl
-    (subst (λ (r : Result (Unit {0}) CommitFault). Commits history r e1 c.commit_turn.new.self) c.in-Ok.is c.commit_turn.ensures)
+    (subst (λ (r : Result (Unit {0}) CommitFault). CommitsTurn history r e1 c.commit_turn.new.self) c.in-Ok.is c.commit_turn.ensures)
 
 pub returns-in-Err-Memory : goal.returns-in-Err-Memory
 returns-in-Err-Memory g c =
@@ -83,12 +83,12 @@ returns-in-Err-Memory g c =
     let e1 = c.serve_connections.new.engine in
     let serve = c.serve_connections.ensures in
     let begins : Begins history e0 =
-    record { sound = c.requires.sound; running = c.requires.running; idle = c.requires.idle; rests = c.requires.rests } in
+    record { sound = c.requires.sound; running = c.requires.running; idle = c.requires.idle; clean = c.requires.clean } in
     let served : Served history e0 e1 c.serve_connections.result (frames_in c.new-replies.result.items) (frames_in c.serve_connections.new.frames.items) ls =
     subst (Served history e0 e1 c.serve_connections.result (frames_in c.new-replies.result.items) (frames_in c.serve_connections.new.frames.items))
     c.deref_mut.ensures.value
     (record {
-      goes = serve.goes;
+      continues = serve.continues;
       sound = serve.sound;
       start = serve.turn_start;
       serves = serve.serves;
@@ -96,7 +96,7 @@ returns-in-Err-Memory g c =
       idle = serve.idle;
     }) in
     no_memory history e0 e1 c.commit_turn.new.self begins ls _ _ _ _ served took c.args.refusals c.requires.refusals
-    (subst (λ (f : CommitFault). Commits history (Err f) e1 c.commit_turn.new.self) c.in-Err-Memory.field-0-is c.in-Err-Memory.ensures)
+    (subst (λ (f : CommitFault). CommitsTurn history (Err f) e1 c.commit_turn.new.self) c.in-Err-Memory.field-0-is c.in-Err-Memory.ensures)
 
 pub returns-in-Err-Full : goal.returns-in-Err-Full
 returns-in-Err-Full g c =
@@ -107,12 +107,12 @@ returns-in-Err-Full g c =
     let e1 = c.serve_connections.new.engine in
     let serve = c.serve_connections.ensures in
     let begins : Begins history e0 =
-    record { sound = c.requires.sound; running = c.requires.running; idle = c.requires.idle; rests = c.requires.rests } in
+    record { sound = c.requires.sound; running = c.requires.running; idle = c.requires.idle; clean = c.requires.clean } in
     let served : Served history e0 e1 c.serve_connections.result (frames_in c.new-replies.result.items) (frames_in c.serve_connections.new.frames.items) ls =
     subst (Served history e0 e1 c.serve_connections.result (frames_in c.new-replies.result.items) (frames_in c.serve_connections.new.frames.items))
     c.deref_mut.ensures.value
     (record {
-      goes = serve.goes;
+      continues = serve.continues;
       sound = serve.sound;
       start = serve.turn_start;
       serves = serve.serves;
@@ -129,7 +129,7 @@ returns-in-Err-Full g c =
     let took = whole c.serve_connections.new.connections _ c.args.connections.now.len long ∙ c.serve_connections.ensures.connections
     ∙ ap connections_taken c.deref_mut.ensures.value in
     no_room history e0 e1 c.commit_turn.new.self begins ls _ _ _ _ served took _ (ap frames_in (whole new _ c.args.refusals.len wide) ∙ given)
-    (subst (λ (f : CommitFault). Commits history (Err f) e1 c.commit_turn.new.self) c.in-Err-Full.field-0-is c.in-Err-Full.ensures)
+    (subst (λ (f : CommitFault). CommitsTurn history (Err f) e1 c.commit_turn.new.self) c.in-Err-Full.field-0-is c.in-Err-Full.ensures)
 
 pub returns-in-Err-Device : goal.returns-in-Err-Device
 returns-in-Err-Device g c =
@@ -142,12 +142,12 @@ returns-in-Err-Device g c =
     let e1 = c.serve_connections.new.engine in
     let serve = c.serve_connections.ensures in
     let begins : Begins history e0 =
-    record { sound = c.requires.sound; running = c.requires.running; idle = c.requires.idle; rests = c.requires.rests } in
+    record { sound = c.requires.sound; running = c.requires.running; idle = c.requires.idle; clean = c.requires.clean } in
     let served : Served history e0 e1 c.serve_connections.result (frames_in c.new-replies.result.items) (frames_in c.serve_connections.new.frames.items) ls =
     subst (Served history e0 e1 c.serve_connections.result (frames_in c.new-replies.result.items) (frames_in c.serve_connections.new.frames.items))
     c.deref_mut.ensures.value
     (record {
-      goes = serve.goes;
+      continues = serve.continues;
       sound = serve.sound;
       start = serve.turn_start;
       serves = serve.serves;
@@ -155,4 +155,4 @@ returns-in-Err-Device g c =
       idle = serve.idle;
     }) in
     broken history e0 e1 c.commit_turn.new.self begins ls _ _ _ _ served took
-    (subst (λ (f : CommitFault). Commits history (Err f) e1 c.commit_turn.new.self) c.in-Err-Device.field-0-is c.in-Err-Device.ensures)
+    (subst (λ (f : CommitFault). CommitsTurn history (Err f) e1 c.commit_turn.new.self) c.in-Err-Device.field-0-is c.in-Err-Device.ensures)

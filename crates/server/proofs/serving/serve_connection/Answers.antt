@@ -105,8 +105,8 @@ returns-clause-reads g c =
     one_reads (has_changes c.answer-reply.new.engine ≡ has_changes c.args.engine.now) connection c.take_call.new.connection (front_of connection)
     c.in-Call.number c.in-Call.request c.in-Call.ensures.taken c.answer-reply.ensures.reads
 
-pub returns-in_default-clause-goes : goal.returns-in_default-clause-goes
-returns-in_default-clause-goes g c = continues_itself g.D.Disk.history c.args.engine.now
+pub returns-in_default-clause-continues : goal.returns-in_default-clause-continues
+returns-in_default-clause-continues g c = continues_itself g.D.Disk.history c.args.engine.now
 
 pub returns-then-request-clause-idle : goal.returns-then-request-clause-idle
 returns-then-request-clause-idle g c none =

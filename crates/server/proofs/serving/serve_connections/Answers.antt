@@ -22,7 +22,7 @@ connections-init g c =
     let moment = engine_moment history engine in
     record {
       sound = c.requires.sound;
-      goes = continues_itself history engine;
+      continues = continues_itself history engine;
       running = refl;
       serves = none_served (KeepsWord (disk_history history engine)) (IsCaused moment moment) (has_changes engine ≡ has_changes engine)
           (has_changes engine ≡ false) (world engine) (frames_in c.args.frames.now.items) refl;
@@ -48,36 +48,36 @@ connections-preserved g c =
     let start : Moment = engine_moment history c.args.engine.now in
     let middle : Moment = engine_moment history c.connections.engine in
     let end : Moment = engine_moment history call.new.engine in
-    let before : Follows start middle = goes_follows history c.args.engine.now c.connections.engine inv.goes in
-    let after : Follows middle end = goes_follows history c.connections.engine call.new.engine call.ensures.goes in
+    let before : Follows start middle = goes_follows history c.args.engine.now c.connections.engine inv.continues in
+    let after : Follows middle end = goes_follows history c.connections.engine call.new.engine call.ensures.continues in
     let word_before : Type 0 = KeepsWord (disk_history history c.connections.engine) in
     let changes_before : Type 0 = has_changes c.connections.engine ≡ has_changes c.args.engine.now in
     let changes_then : Type 0 = has_changes call.new.engine ≡ has_changes c.connections.engine in
     let changes : Type 0 = has_changes call.new.engine ≡ has_changes c.args.engine.now in
     let rests_before : Type 0 = has_changes c.connections.engine ≡ false in
-    let rests : Type 0 = has_changes call.new.engine ≡ false in
+    let clean : Type 0 = has_changes call.new.engine ≡ false in
     let word_after : Type 0 = KeepsWord (disk_history history call.new.engine) in
     let more : calls (take i first) ++ call_at x (front_of x) ≡ calls (take (i + 1) first) =
     ap (λ (y : Connection). calls (take i first) ++ call_at y (front_of y)) s.same ∙ sym (calls_more first i x s.within) in
     record {
       sound = call.ensures.sound;
-      goes = continues_further history c.args.engine.now c.connections.engine call.new.engine inv.goes call.ensures.goes;
+      continues = continues_further history c.args.engine.now c.connections.engine call.new.engine inv.continues call.ensures.continues;
       running = call.ensures.running ∙ inv.running;
       serves = subst
-          (λ (cs : List Call). Serves word_after (IsCaused start end) changes rests cs (world c.args.engine.now) (world call.new.engine)
+          (λ (cs : List Call). Serves word_after (IsCaused start end) changes clean cs (world c.args.engine.now) (world call.new.engine)
           (c.connections.all && call.result) (frames_in c.args.frames.now.items) (frames_in call.new.frames.items)) more
-          (serves_on word_after (IsCaused start end) changes_before changes_then changes (λ same then. then ∙ same) rests_before rests
+          (serves_on word_after (IsCaused start end) changes_before changes_then changes (λ same then. then ∙ same) rests_before clean
           (rested_before (has_changes c.connections.engine) (has_changes call.new.engine) call.ensures.keeps)
           (calls (take i first)) (call_at x (front_of x)) (world c.args.engine.now) (world c.connections.engine)
           (world call.new.engine) c.connections.all call.result (frames_in c.args.frames.now.items) (frames_in c.connections.frames.items)
           (frames_in call.new.frames.items)
           (serves_weaker (IsCaused start middle) (IsCaused start end)
-          (caused_wider start start middle end (follows_itself start) before after) word_after word_before call.ensures.goes.reads.on.kept
+          (caused_wider start start middle end (follows_itself start) before after) word_after word_before call.ensures.continues.reads.extends.kept
           changes_before rests_before (calls (take i first)) (world c.args.engine.now) (world c.connections.engine) c.connections.all
           (frames_in c.args.frames.now.items)
           (frames_in c.connections.frames.items) inv.serves)
           (serves_weaker (IsCaused middle end) (IsCaused start end) (caused_wider start middle end end before after (follows_itself end)) word_after word_after
-          (λ k. k) changes_then rests (call_at x (front_of x)) (world c.connections.engine) (world call.new.engine) call.result
+          (λ k. k) changes_then clean (call_at x (front_of x)) (world c.connections.engine) (world call.new.engine) call.result
           (frames_in c.connections.frames.items) (frames_in call.new.frames.items) call.ensures.serves));
       done = ap (λ (m : ℕ). take m (set c.connections.connections i call.new.connection)) next ∙ s.done
           ∙ ap (λ (m : ℕ). connections_taken (take m first)) (sym next);

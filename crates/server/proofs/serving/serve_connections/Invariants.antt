@@ -13,7 +13,7 @@ use Rattle.server.proofs.serving.serve_connections.Given as goal
 abbrev pub invariant-connections : goal.invariant-connections
 invariant-connections g l = record {
   sound : IsSound g.D.Disk.history l.engine;
-  goes : Continues g.D.Disk.history l.initial.engine l.engine;
+  continues : Continues g.D.Disk.history l.initial.engine l.engine;
   running : is_stopped l.engine ≡ is_stopped l.initial.engine;
   serves : Serves (KeepsWord (disk_history g.D.Disk.history l.engine))
       (IsCaused (engine_moment g.D.Disk.history l.initial.engine) (engine_moment g.D.Disk.history l.engine))

@@ -11,7 +11,7 @@ use Rattle.statements.proofs.UpdatingLoop.{done, found_wrote, makes, none_wrote,
 use Rattle.statements.proofs.statements.run_statement.Goals as goal
 
 pub upsert-requires-clause-within : goal.upsert-requires-clause-within
-upsert-requires-clause-within c = c.in_ok-found.ensures.on.within
+upsert-requires-clause-within c = c.in_ok-found.ensures.extends.within
 
 pub returns-in_err-found-clause-gives : goal.returns-in_err-found-clause-gives
 returns-in_err-found-clause-gives c =

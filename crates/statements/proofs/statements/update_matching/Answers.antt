@@ -22,7 +22,7 @@ pub change_at-requires-clause-there : goal.change_at-requires-clause-there
 change_at-requires-clause-there c = omega (arith, c.places-test.true, c.places.invariant.count, c.len-count.ensures, c.args.run.now.documents.ok.0)
 
 pub change_at-requires-clause-within : goal.change_at-requires-clause-within
-change_at-requires-clause-within c = c.places.invariant.on.within
+change_at-requires-clause-within c = c.places.invariant.extends.within
 
 pub change_at-requires-clause-read : goal.change_at-requires-clause-read
 change_at-requires-clause-read c = subst (λ (s : UpdateStatement). IsRead s.change) (sym c.statement.view_is) c.requires.read

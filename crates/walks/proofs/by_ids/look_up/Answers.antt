@@ -9,7 +9,7 @@ use Rattle.walks.proofs.by_ids.look_up.Goals as goal
 
 pub returns-in_err-document-clause-reads : goal.returns-in_err-document-clause-reads
 returns-in_err-document-clause-reads g c =
-    let p = g.S.Selects.selects c.args.which.now in
+    let p = g.S.DocumentPredicate.selects c.args.which.now in
     let found : List Pairs = c.args.found.now.items in
     let e = err_from_is_err_and c.from_residual.result c.from_residual.ensures.1 in
     rw (e.1, e.2) (reads_refused g.D.Disk.history (IsPlaceOf c.args.number c.args.id.now) (λ now place (o : Option Pairs). o ≡ stored_at place)

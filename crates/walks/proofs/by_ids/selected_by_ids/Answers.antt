@@ -10,7 +10,7 @@ use Rattle.walks.proofs.by_ids.selected_by_ids.Goals as goal
 
 pub returns-in_err-found-clause-reads : goal.returns-in_err-found-clause-reads
 returns-in_err-found-clause-reads g c =
-    let p = g.S.Selects.selects c.args.which.now in
+    let p = g.S.DocumentPredicate.selects c.args.which.now in
     let e = err_from_is_err_and c.from_residual.result c.from_residual.ensures.1 in
     rw (e.1, e.2)
     (reads_refused g.D.Disk.history (AreIdsOf c.args.number p (texts_of c.args.ids.now))
@@ -20,7 +20,7 @@ returns-in_err-found-clause-reads g c =
 
 pub returns-in-Some-clause-reads : goal.returns-in-Some-clause-reads
 returns-in-Some-clause-reads g c =
-    let p = g.S.Selects.selects c.args.which.now in
+    let p = g.S.DocumentPredicate.selects c.args.which.now in
     reads_made g.D.Disk.history (AreIdsOf c.args.number p (texts_of c.args.ids.now))
     (λ now of (o : Option (Vec Pairs Global)). IfSome o (λ found. found.items ≡ take c.args.most (filter p of.documents)))
     (λ now of (found : Vec Pairs Global). found.items ≡ take c.args.most (filter p of.documents))
@@ -30,7 +30,7 @@ returns-in-Some-clause-reads g c =
 
 pub returns-in-None-clause-reads : goal.returns-in-None-clause-reads
 returns-in-None-clause-reads g c =
-    let p = g.S.Selects.selects c.args.which.now in
+    let p = g.S.DocumentPredicate.selects c.args.which.now in
     let Is = AreIdsOf c.args.number p (texts_of c.args.ids.now) in
     reads_behind g.D.Disk.history Is
     (λ now of (o : Option (Vec Pairs Global)). IfSome o (λ found. found.items ≡ take c.args.most (filter p of.documents)))

@@ -13,7 +13,7 @@ use Rattle.walks.proofs.by_ids.selected_one_by_one.Goals as goal
 
 pub ids-init : goal.ids-init
 ids-init g c =
-    let p = g.S.Selects.selects c.args.which.now in
+    let p = g.S.DocumentPredicate.selects c.args.which.now in
     record {
       come = begins g.D.Disk.history c.args.number p (texts_of c.args.ids.now)
           (λ all left. AreSelected p c.args.most c.new-found.result.items all left) c.args.file.now (texts_of c.args.ids.now) (sym c.if-is_stopped.ensures) refl
@@ -24,7 +24,7 @@ ids-init g c =
 
 pub returns-then-most-len-clause-reads : goal.returns-then-most-len-clause-reads
 returns-then-most-len-clause-reads g c =
-    let p = g.S.Selects.selects c.args.which.now in
+    let p = g.S.DocumentPredicate.selects c.args.which.now in
     let now = c.ids.found.items in
     answered g.D.Disk.history c.args.number (AreIdsOf c.args.number p (texts_of c.args.ids.now)) (texts_of c.args.ids.now)
     (told_by_ids c.args.number p (texts_of c.args.ids.now)) (λ all left. AreSelected p c.args.most now all left) c.args.file.now c.ids.file
@@ -37,7 +37,7 @@ returns-then-most-len-clause-within g c = c.ids.invariant.within
 
 pub returns-in_err-look_up-clause-reads : goal.returns-in_err-look_up-clause-reads
 returns-in_err-look_up-clause-reads g c =
-    let p = g.S.Selects.selects c.args.which.now in
+    let p = g.S.DocumentPredicate.selects c.args.which.now in
     let now = c.ids.found.items in
     let text : List ℕ = c.deref.result.now in
     let is = next_text c.args.ids.now c.ids.id-index c.id-item.result text c.ids-test.true c.id-item.is c.deref.ensures.value in
@@ -52,7 +52,7 @@ returns-in_err-look_up-clause-reads g c =
 
 pub ids-preserved : goal.ids-preserved
 ids-preserved g c =
-    let p = g.S.Selects.selects c.args.which.now in
+    let p = g.S.DocumentPredicate.selects c.args.which.now in
     let now = c.ids.found.items in
     let next = c.look_up.new.found.items in
     let text : List ℕ = c.deref.result.now in
@@ -69,7 +69,7 @@ ids-preserved g c =
 
 pub returns-clause-reads : goal.returns-clause-reads
 returns-clause-reads g c =
-    let p = g.S.Selects.selects c.args.which.now in
+    let p = g.S.DocumentPredicate.selects c.args.which.now in
     let now = c.ids.found.items in
     ends g.D.Disk.history c.args.number (AreIdsOf c.args.number p (texts_of c.args.ids.now)) (texts_of c.args.ids.now)
     (told_by_ids c.args.number p (texts_of c.args.ids.now)) (λ all left. AreSelected p c.args.most now all left) c.args.file.now c.ids.file

@@ -8,6 +8,6 @@ pub returns-clause-reads : goal.returns-clause-reads
 returns-clause-reads g c =
     let texts : Bounds = record { from = c.deref.result; to = c.as_deref.result } in
     let span : IdSpan = c.in_ok-span.span in
-    walked g.D.Disk.history g.F.DocumentFold.makes c.args.fold c.args.home.now (g.S.Selects.selects c.args.which.now) texts span.first.items
+    walked g.D.Disk.history g.F.DocumentFold.makes c.args.fold c.args.home.now (g.S.DocumentPredicate.selects c.args.which.now) texts span.first.items
     (option_map (λ v. v.items) span.end) c.deref.ensures.value c.as_deref.ensures.value c.in_ok-span.ensures c.args.file.now
     c.fold_documents_within.new.self c.fold_documents_within.result (sym c.if-is_stopped.ensures) c.fold_documents_within.ensures.reads

@@ -1,6 +1,6 @@
 use Rattle.std.proofs.Common.{ap, subst, ◌∙◌}
 use Rattle.pager.specs.Asking.{OnlyWrites}
-use Rattle.collections.specs.Committing.{Commits}
+use Rattle.collections.specs.Committing.{CommitsCollections}
 use Rattle.collections.specs.State.{State}
 use Rattle.collections.specs.Versions.{CommitsVersions, pins_of}
 use Rattle.collections.proofs.CommitLemmas.{commits_so}
@@ -12,7 +12,7 @@ returns-clause-commits g c =
     let D = g.row.D.Denot in
     let history = g.D.Disk.history in
     let i = c.self.inside in
-    subst (λ (s : State D). Commits history c.commit.result s (record { pager = c.commit.new.self; root = i.root })) c.self.view_is
+    subst (λ (s : State D). CommitsCollections history c.commit.result s (record { pager = c.commit.new.self; root = i.root })) c.self.view_is
     (commits_so history
     (record { pager = i.pager; root = i.root }) c.commit.new.self c.commit.result c.commit.ensures.commits c.commit.ensures.takes c.commit.ensures.moves)
 

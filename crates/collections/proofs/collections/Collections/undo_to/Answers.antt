@@ -22,7 +22,7 @@ returns-clause-versions g c =
     let i = c.self.inside in
     let mark = c.args.mark in
     subst (λ (s : State D). KeepsThen history mark s (record { pager = c.undo_to.new.self; root = mark.root })) c.self.view_is
-    (λ earlier is goes. older_keep history earlier (record { pager = i.pager; root = i.root }) c.undo_to.new.self mark.root mark.pages.made goes
+    (λ earlier is continues. older_keep history earlier (record { pager = i.pager; root = i.root }) c.undo_to.new.self mark.root mark.pages.made continues
     is.made c.undo_to.ensures.versions)
 
 pub returns-clause-pins : goal.returns-clause-pins

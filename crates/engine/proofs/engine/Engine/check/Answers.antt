@@ -6,20 +6,20 @@ returns-in-Err-clause-checks g c =
     let old = c.args.self.now in
     let new = c.look_through.new.self in
     let fault = c.told_fault.result in
-    let goes = c.in-Err.ensures.only.goes in
-    let tells = as_fault_here g.D.Disk.history old new goes c.in-Err.fault fault c.troubles_of-before.ensures
+    let continues = c.in-Err.ensures.only.continues in
+    let tells = as_fault_here g.D.Disk.history old new continues c.in-Err.fault fault c.troubles_of-before.ensures
     c.troubles_of.ensures c.told_fault.ensures in
-    check_told g.D.Disk.history old new goes c.in-Err.fault fault c.in-Err.ensures tells
+    check_told g.D.Disk.history old new continues c.in-Err.fault fault c.in-Err.ensures tells
 
 pub returns-in-Err-clause-memory : goal.returns-in-Err-clause-memory
 returns-in-Err-clause-memory g c = λ k memory.
     let old = c.args.self.now in
     let new = c.look_through.new.self in
     let fault = c.told_fault.result in
-    let goes = c.in-Err.ensures.only.goes in
-    let tells = as_fault_here g.D.Disk.history old new goes c.in-Err.fault fault c.troubles_of-before.ensures
+    let continues = c.in-Err.ensures.only.continues in
+    let tells = as_fault_here g.D.Disk.history old new continues c.in-Err.fault fault c.troubles_of-before.ensures
     c.troubles_of.ensures c.told_fault.ensures in
-    memory_told g.D.Disk.history old new goes c.in-Err.fault fault k tells cc
+    memory_told g.D.Disk.history old new continues c.in-Err.fault fault k tells cc
 
 pub returns-in-Ok-clause-memory : goal.returns-in-Ok-clause-memory
 returns-in-Ok-clause-memory g c = λ k memory. absurd cc

@@ -39,7 +39,7 @@ returns-clause-performs g c =
 pub returns-clause-has_changes : goal.returns-clause-has_changes
 returns-clause-has_changes g c = λ k same.
     absurd (created_differs (world c.args.self.now).collections c.args.namespace.now (world c.make_collection.new.self).collections
-    (c.in_ok-make_collection.ensures.does k) same)
+    (c.in_ok-make_collection.ensures.as_planned k) same)
 
 pub returns-clause-sendable : goal.returns-clause-sendable
 returns-clause-sendable g c = subst IsSendable (sym c.in_ok-reply.ensures) ping-sendable

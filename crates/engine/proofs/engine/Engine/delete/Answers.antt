@@ -67,7 +67,7 @@ returns-clause-performs g c =
     let makes = c.in_ok-remove.ensures.makes in
     delete_done history name ds old new c.len.result c.in_ok-reply.reply c.in_ok-reply.ensures
     (λ k. c.len.ensures ∙ taken.removed.ok.0
-    ∙ count_taken (world old).collections name ds taken (c.in_ok-taken.ensures.answers (word_before history (file_of mid) (file_of new) makes.goes k)))
+    ∙ count_taken (world old).collections name ds taken (c.in_ok-taken.ensures.answers (word_before history (file_of mid) (file_of new) makes.continues k)))
     (makes_behind history (λ cs. Ok (deleted cs name ds)) old mid new c.in_ok-taken.ensures.reads (Ok tt) makes)
 
 pub returns-clause-has_changes : goal.returns-clause-has_changes
@@ -81,8 +81,8 @@ returns-clause-has_changes g c = λ k same.
     let now = (world old).collections in
     let reads = c.in_ok-taken.ensures.reads in
     let makes = makes_behind history (λ cs. Ok (deleted cs name ds)) old mid new reads (Ok tt) c.in_ok-remove.ensures.makes in
-    let is = c.in_ok-taken.ensures.answers (word_before history (file_of mid) (file_of new) c.in_ok-remove.ensures.makes.goes k) in
-    c.in_ok-remove.ensures.has_changes (is.removed ∙ nothing_taken name ds now (ap (planned_or now) (makes.does k) ∙ same)) ∙ reads.changes
+    let is = c.in_ok-taken.ensures.answers (word_before history (file_of mid) (file_of new) c.in_ok-remove.ensures.makes.continues k) in
+    c.in_ok-remove.ensures.has_changes (is.removed ∙ nothing_taken name ds now (ap (planned_or now) (makes.as_planned k) ∙ same)) ∙ reads.changes
 
 pub returns-clause-sendable : goal.returns-clause-sendable
 returns-clause-sendable g c = subst IsSendable (sym c.in_ok-reply.ensures) (insert-sendable (min c.len.result (2 ^ 31 - 1)))

@@ -59,7 +59,7 @@ pub returns-clause-has_changes : goal.returns-clause-has_changes
 returns-clause-has_changes g c = λ k same.
     let makes = drop_behind g.D.Disk.history c.args.namespace.now c.args.self.now c.catalogued.new.self c.in-Some.home
     (rw c.in-Some.is at c.in_ok-home.ensures.looks) c.remove_collection.new.self (Ok tt) c.in_ok-remove_collection.ensures in
-    absurd (dropped_differs (world c.args.self.now).collections c.args.namespace.now (world c.remove_collection.new.self).collections (makes.does k) same)
+    absurd (dropped_differs (world c.args.self.now).collections c.args.namespace.now (world c.remove_collection.new.self).collections (makes.as_planned k) same)
 
 pub returns-clause-sendable : goal.returns-clause-sendable
 returns-clause-sendable g c = subst IsSendable (sym c.in_ok-reply.ensures) (drop-sendable (1 + c.len.result) c.args.namespace.now c.requires.short)

@@ -17,31 +17,31 @@ returns-in-Ok-clause-answers g c = λ k.
     let old = c.args.self.now in
     let new = c.run.new.self in
     inl (answers_done (world old) (world new) (read_and_run (world old) c.args.connection c.args.body.now) (answer_of c.in-Ok.answer)
-    (c.in-Ok.ensures.performs.does k))
+    (c.in-Ok.ensures.performs.as_planned k))
 
 pub returns-in-Err-clause-answers : goal.returns-in-Err-clause-answers
 returns-in-Err-clause-answers g c = λ k.
     let history = g.D.Disk.history in
     let old = c.args.self.now in
     let new = c.run.new.self in
-    let goes = c.in-Err.ensures.performs.goes in
+    let continues = c.in-Err.ensures.performs.continues in
     let told = c.told.result in
-    let tells : TellsHere history old new goes c.in-Err.refusal told =
-    as_here history old new goes c.in-Err.refusal told c.troubles_of-before.ensures c.troubles_of.ensures c.told.ensures in
-    answers_told history old new goes c.in-Err.refusal told k
-    (read_and_run (world old) c.args.connection c.args.body.now) (c.in-Err.ensures.performs.does k) tells
+    let tells : TellsHere history old new continues c.in-Err.refusal told =
+    as_here history old new continues c.in-Err.refusal told c.troubles_of-before.ensures c.troubles_of.ensures c.told.ensures in
+    answers_told history old new continues c.in-Err.refusal told k
+    (read_and_run (world old) c.args.connection c.args.body.now) (c.in-Err.ensures.performs.as_planned k) tells
 
 pub returns-in-Err-clause-memory : goal.returns-in-Err-clause-memory
 returns-in-Err-clause-memory g c = λ k memory.
     let history = g.D.Disk.history in
     let old = c.args.self.now in
     let new = c.run.new.self in
-    let goes = c.in-Err.ensures.performs.goes in
+    let continues = c.in-Err.ensures.performs.continues in
     let told = c.told.result in
-    let tells : TellsHere history old new goes c.in-Err.refusal told =
-    as_here history old new goes c.in-Err.refusal told c.troubles_of-before.ensures c.troubles_of.ensures c.told.ensures in
+    let tells : TellsHere history old new continues c.in-Err.refusal told =
+    as_here history old new continues c.in-Err.refusal told c.troubles_of-before.ensures c.troubles_of.ensures c.told.ensures in
     let is : told ≡ refusals.OutOfMemory = cc in
-    met_no_trouble history old new goes c.in-Err.refusal told k tells is
+    met_no_trouble history old new continues c.in-Err.refusal told k tells is
 
 pub returns-in-Err-clause-sendable : goal.returns-in-Err-clause-sendable
 returns-in-Err-clause-sendable g c = refusal-sendable c.told.result
@@ -70,12 +70,12 @@ returns-in-Err-clause-sure g c none =
     let history = g.D.Disk.history in
     let old = c.args.self.now in
     let new = c.run.new.self in
-    let goes = c.in-Err.ensures.performs.goes in
+    let continues = c.in-Err.ensures.performs.continues in
     let told = c.told.result in
-    let tells : TellsHere history old new goes c.in-Err.refusal told =
-    as_here history old new goes c.in-Err.refusal told c.troubles_of-before.ensures c.troubles_of.ensures c.told.ensures in
+    let tells : TellsHere history old new continues c.in-Err.refusal told =
+    as_here history old new continues c.in-Err.refusal told c.troubles_of-before.ensures c.troubles_of.ensures c.told.ensures in
     let is : told ≡ c.in-Err.refusal =
-    told_as_met history old new goes c.in-Err.refusal told (c.in-Err.ensures.still none) tells in
+    told_as_met history old new continues c.in-Err.refusal told (c.in-Err.ensures.still none) tells in
     subst (λ (e : Refusal). ((world new, refusal_reply e) ≡ answered (world old) (read_and_run (world old) c.args.connection c.args.body.now))
     ⊎ RefusedBeside ForMemory (world old) (answered (world old) (read_and_run (world old) c.args.connection c.args.body.now)).0 (world new) (refusal_reply e))
     (sym is)
@@ -100,19 +100,19 @@ returns-in-Ok-clause-room g c = λ k only.
     let old = c.args.self.now in
     let new = c.run.new.self in
     inl (answers_done (world old) (world new) (read_and_run (world old) c.args.connection c.args.body.now) (answer_of c.in-Ok.answer)
-    ((c.in-Ok.ensures.reads only).does k))
+    ((c.in-Ok.ensures.reads only).as_planned k))
 
 pub returns-in-Err-clause-room : goal.returns-in-Err-clause-room
 returns-in-Err-clause-room g c = λ k only.
     let old = c.args.self.now in
     let new = c.run.new.self in
     let history = g.D.Disk.history in
-    let goes = c.in-Err.ensures.performs.goes in
+    let continues = c.in-Err.ensures.performs.continues in
     let told = c.told.result in
-    let tells : TellsHere history old new goes c.in-Err.refusal told =
-    as_here history old new goes c.in-Err.refusal told c.troubles_of-before.ensures c.troubles_of.ensures c.told.ensures in
-    answers_told_reading history old new goes c.in-Err.refusal told k
-    (read_and_run (world old) c.args.connection c.args.body.now) ((c.in-Err.ensures.reads only).does k) (c.in-Err.ensures.reads only).takes tells
+    let tells : TellsHere history old new continues c.in-Err.refusal told =
+    as_here history old new continues c.in-Err.refusal told c.troubles_of-before.ensures c.troubles_of.ensures c.told.ensures in
+    answers_told_reading history old new continues c.in-Err.refusal told k
+    (read_and_run (world old) c.args.connection c.args.body.now) ((c.in-Err.ensures.reads only).as_planned k) (c.in-Err.ensures.reads only).takes tells
 
 pub returns-in-Ok-clause-memory : goal.returns-in-Ok-clause-memory
 returns-in-Ok-clause-memory g c = λ k memory. absurd cc

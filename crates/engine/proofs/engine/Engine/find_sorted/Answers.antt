@@ -72,7 +72,7 @@ give_listed-requires-clause-there g c = λ k.
     let found = c.in_ok-found.found in
     let first = c.in_ok-home.ensures.looks in
     let then = c.in_ok-found.ensures.looks in
-    let is = subst (IsCatalogueOf name (world old).collections) c.in-Some.is (first.answers (word_before history mid.file new.file then.reads.goes k)) in
+    let is = subst (IsCatalogueOf name (world old).collections) c.in-Some.is (first.answers (word_before history mid.file new.file then.reads.continues k)) in
     let at = subst (λ (cs : List Collection). HasHome cs name c.in-Some.home) (sym (collections_same history old mid first.reads))
     (has_home (world old).collections name c.in-Some.home is) in
     subst (λ (cs : List Collection). AreOf cs name c.in-Some.home found.items) (sym (collections_same history mid new then.reads))
@@ -134,7 +134,7 @@ give_ids-requires-clause-there g c = λ k.
     let texts = texts_of c.in_ok-asked.asked.items in
     let first = c.in_ok-home.ensures.looks in
     let then = c.in_ok-ids.ensures in
-    let is = subst (IsCatalogueOf name (world old).collections) c.in-Some.is (first.answers (word_before history mid.file new.file then.reads.goes k)) in
+    let is = subst (IsCatalogueOf name (world old).collections) c.in-Some.is (first.answers (word_before history mid.file new.file then.reads.continues k)) in
     let at = subst (λ (cs : List Collection). HasHome cs name c.in-Some.home) (sym (collections_same history old mid first.reads))
     (has_home (world old).collections name c.in-Some.home is) in
     let whole : c.in_ok-asked.asked.items ≡ window q.skip q.limit ids.items =

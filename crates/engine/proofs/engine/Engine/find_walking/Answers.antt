@@ -143,7 +143,7 @@ give_listed-requires-clause-there g c = λ k.
     let asked = c.whole_asked-asked.result in
     let first = c.in_ok-home.ensures.looks in
     let then = c.in_ok-found.ensures.looks in
-    let is = subst (IsCatalogueOf name (world old).collections) c.in-Some.is (first.answers (word_before history mid.file new.file then.reads.goes k)) in
+    let is = subst (IsCatalogueOf name (world old).collections) c.in-Some.is (first.answers (word_before history mid.file new.file then.reads.continues k)) in
     let at = subst (λ (cs : List Collection). HasHome cs name c.in-Some.home) (sym (collections_same history old mid first.reads))
     (has_home (world old).collections name c.in-Some.home is) in
     let ds : List Pairs = at.collection.documents in
@@ -163,7 +163,7 @@ give_walked-requires-clause-home g c = λ k.
     let name = c.args.namespace.now in
     let first = c.in_ok-home.ensures.looks in
     let then = c.in_ok-found.ensures.looks.reads in
-    let is = subst (IsCatalogueOf name (world old).collections) c.in-Some.is (first.answers (word_before history mid.file new.file then.goes k)) in
+    let is = subst (IsCatalogueOf name (world old).collections) c.in-Some.is (first.answers (word_before history mid.file new.file then.continues k)) in
     subst (λ (cs : List Collection). HasHome cs name c.in-Some.home)
     (sym (collections_same history mid new then ∙ collections_same history old mid first.reads)) (has_home (world old).collections name c.in-Some.home is)
 

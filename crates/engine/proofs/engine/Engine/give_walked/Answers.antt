@@ -34,7 +34,7 @@ returns-in_err-batch-clause-performs g c =
     let e = err_from_is_err_and c.from_residual.result c.from_residual.ensures.1 in
     rw (e.1, e.2)
     (performs_refused history old mid (run_find (world old) c.args.connection asked) c.in_err-batch.field-0.0 looks.reads (λ k.
-    let f = c.requires.home (word_before history old.file mid.file looks.reads.goes k) in
+    let f = c.requires.home (word_before history old.file mid.file looks.reads.continues k) in
     looks.answers k f.collection f.catalogued))
 
 pub returns-in_default-clause-performs : goal.returns-in_default-clause-performs
@@ -50,7 +50,7 @@ returns-in_default-clause-performs g c =
     let looks = c.in_ok-batch.ensures.looks in
     let b = c.in_ok-batch.batch in
     performs_read history old mid (run_find (world old) c.args.connection asked) (Ok b.reply) looks.reads (λ k.
-    let f = c.requires.home (word_before history old.file mid.file looks.reads.goes k) in
+    let f = c.requires.home (word_before history old.file mid.file looks.reads.continues k) in
     let given = at_home (world old).collections name c.args.home.now f (λ (ds : List Pairs). IsGivenBatch walk batch ds b)
     (looks.answers k f.collection f.catalogued) in
     walked_whole (world old) c.args.connection name c.args.query.now c.args.most stand walk c.whole_walk-walk.ensures batch refl refl refl b
@@ -73,7 +73,7 @@ returns-then-is_none-clause-performs g c =
     let full : is_refused c.args.connection w.cursors w.next ≡ true =
     number_lacks c.next_number-number.result _ c.is_none.result c.is_none.ensures c.if-is_none.true c.next_number-number.ensures.none in
     performs_read history old mid (run_find w c.args.connection asked) (Err refusals.TooMany) looks.reads (λ k.
-    let f = c.requires.home (word_before history old.file mid.file looks.reads.goes k) in
+    let f = c.requires.home (word_before history old.file mid.file looks.reads.continues k) in
     let given = at_home w.collections name c.args.home.now f (λ (ds : List Pairs). IsGivenBatch walk batch ds b)
     (looks.answers k f.collection f.catalogued) in (
       world_same history old mid looks.reads,
@@ -124,7 +124,7 @@ returns-in_err-open_pinned-clause-performs g c =
     c.open_pinned.new.file c.open_pinned.new.cursors
     (λ k. left_by_walk history mid reads.sound name home
     (subst (λ (cs : List Collection). HasHome cs name home) (sym (collections_same history old mid reads))
-    (c.requires.home (word_before history old.file mid.file reads.goes k)))
+    (c.requires.home (word_before history old.file mid.file reads.continues k)))
     walk.filter.now walk.projection.now (walk.limit - n) from rest rest_is)
     reads.sound
     (subst (λ (ds : List Pairs). All IsWithin ds) (sym c.rest_from-rest.ensures)
@@ -171,7 +171,7 @@ returns-clause-performs g c =
     c.open_pinned.new.file c.open_pinned.new.cursors
     (λ k. left_by_walk history mid reads.sound name home
     (subst (λ (cs : List Collection). HasHome cs name home) (sym (collections_same history old mid reads))
-    (c.requires.home (word_before history old.file mid.file reads.goes k)))
+    (c.requires.home (word_before history old.file mid.file reads.continues k)))
     walk.filter.now walk.projection.now (walk.limit - n) from rest rest_is)
     reads.sound
     (subst (λ (ds : List Pairs). All IsWithin ds) (sym c.rest_from-rest.ensures)
@@ -179,7 +179,7 @@ returns-clause-performs g c =
     (stored_at (world mid).collections name reads.sound.lawful.kept).1))
     planned c.in_ok-open_pinned.ensures b.reply
     (λ k.
-    let f = c.requires.home (word_before history old.file mid.file reads.goes k) in
+    let f = c.requires.home (word_before history old.file mid.file reads.continues k) in
     let given = at_home w.collections name home f (λ (ds : List Pairs). IsGivenBatch walk batch ds b) (looks.answers k f.collection f.catalogued) in
     walked_opened w c.args.connection name q c.args.most stand walk is batch refl refl refl b given c.in-Some.from c.in-Some.is number free _
     (λ i. let v : World = world_same history old mid reads i in

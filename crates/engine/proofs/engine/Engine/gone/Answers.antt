@@ -29,11 +29,11 @@ returns-clause-sound g c =
     (subst (λ (t : CursorTable). IsLawful (world_of old.told.value t))
     (sym (ap table_of end.ensures.left ∙ others_to_table (cases.Of c.args.connection) old.cursors))
     (forgotten_lawful g.D.Disk.history old c.args.connection h))
-    h.quiet (λ running rests. pins.unchanged ∙ h.unchanged (sym pins.untouched.stopped ∙ running) rests)
+    h.quiet (λ running clean. pins.unchanged ∙ h.unchanged (sym pins.untouched.stopped ∙ running) clean)
 
 pub returns-clause-rested : goal.returns-clause-rested
-returns-clause-rested g c = λ rests.
+returns-clause-rested g c = λ clean.
     let old = c.args.self.now in
     subst (λ (t : CursorTable). are_untouched t.list ≡ true)
     (sym (ap table_of c.end_all.ensures.left ∙ others_to_table (cases.Of c.args.connection) old.cursors))
-    (filter_untouched (λ (x : Cursor). not (x.connection == c.args.connection)) (cursors_of old.cursors) rests)
+    (filter_untouched (λ (x : Cursor). not (x.connection == c.args.connection)) (cursors_of old.cursors) clean)

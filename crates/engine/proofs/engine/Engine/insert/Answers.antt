@@ -52,7 +52,7 @@ returns-clause-has_changes g c = λ k same.
     let ds = documents_at c.args.documents.now in
     let some : 1 ≤ length ds = omega (arith, c.requires.some, length-map c.args.documents.now (λ d. d.now)) in
     absurd (inserted_differs (world c.args.self.now).collections c.args.namespace.now ds (world c.store.new.self).collections some
-    (stored_at (world c.args.self.now).collections c.args.namespace.now c.requires.sound.lawful.kept).0 (c.in_ok-store.ensures.does k) same)
+    (stored_at (world c.args.self.now).collections c.args.namespace.now c.requires.sound.lawful.kept).0 (c.in_ok-store.ensures.as_planned k) same)
 
 pub returns-clause-sendable : goal.returns-clause-sendable
 returns-clause-sendable g c = subst IsSendable (sym c.in_ok-reply.ensures) (insert-sendable (length c.args.documents.now))

@@ -37,7 +37,7 @@ returns-then-branch g c =
 
 pub is_taken-requires-2-clause-sound : goal.is_taken-requires-2-clause-sound
 is_taken-requires-2-clause-sound g c =
-    (reads_file g.D.Disk.history c.args.self.now c.has_noted.new.self c.requires.sound c.in_ok-has_noted.ensures.on c.in_ok-has_noted.ensures.unchanged
+    (reads_file g.D.Disk.history c.args.self.now c.has_noted.new.self c.requires.sound c.in_ok-has_noted.ensures.extends c.in_ok-has_noted.ensures.unchanged
     c.in_ok-has_noted.ensures.same).sound
 
 pub returns : goal.returns

@@ -17,7 +17,7 @@ returns-in_err-names-clause-looks g c =
     let old = c.args.self.now in
     let e = err_from_is_err_and c.from_residual.result c.from_residual.ensures.1 in
     rw (e.1, e.2) (record {
-      reads = reads_so g.D.Disk.history old (record old { file = c.names.new.self }) c.requires refl refl refl c.names.ensures.on c.names.ensures.unchanged
+      reads = reads_so g.D.Disk.history old (record old { file = c.names.new.self }) c.requires refl refl refl c.names.ensures.extends c.names.ensures.unchanged
           c.names.ensures.same;
       answers = λ k. c.in_err-names.ensures.answers k old.told.value.start (world old).collections c.requires.file;
     })
@@ -28,7 +28,7 @@ returns-in_err-listed-clause-looks g c =
     let new = record old { file = c.names.new.self } in
     let e = err_from_is_err_and c.from_residual-in_err-listed.result c.from_residual-in_err-listed.ensures.1 in
     rw e.1 (looks_memory g.D.Disk.history (λ now (found : Vec Pairs Global). found.items ≡ map listed (names_in c.args.front.now now)) old new e.0 e.2
-    (reads_so g.D.Disk.history old new c.requires refl refl refl c.names.ensures.on c.names.ensures.unchanged c.names.ensures.same))
+    (reads_so g.D.Disk.history old new c.requires refl refl refl c.names.ensures.extends c.names.ensures.unchanged c.names.ensures.same))
 
 pub returns-then-not-are_within-clause-looks : goal.returns-then-not-are_within-clause-looks
 returns-then-not-are_within-clause-looks g c =
@@ -36,7 +36,7 @@ returns-then-not-are_within-clause-looks g c =
     let front = c.args.front.now in
     let cs = (world old).collections in
     record {
-      reads = reads_so g.D.Disk.history old (record old { file = c.names.new.self }) c.requires refl refl refl c.names.ensures.on c.names.ensures.unchanged
+      reads = reads_so g.D.Disk.history old (record old { file = c.names.new.self }) c.requires refl refl refl c.names.ensures.extends c.names.ensures.unchanged
           c.names.ensures.same;
       answers = λ k.
           let read = c.in_ok-names.ensures.answers k old.told.value.start cs c.requires.file in
@@ -54,7 +54,7 @@ returns-clause-looks g c =
     let old = c.args.self.now in
     let front = c.args.front.now in
     record {
-      reads = reads_so g.D.Disk.history old (record old { file = c.names.new.self }) c.requires refl refl refl c.names.ensures.on c.names.ensures.unchanged
+      reads = reads_so g.D.Disk.history old (record old { file = c.names.new.self }) c.requires refl refl refl c.names.ensures.extends c.names.ensures.unchanged
           c.names.ensures.same;
       answers = λ k.
           let read = c.in_ok-names.ensures.answers k old.told.value.start (world old).collections c.requires.file in

@@ -1,12 +1,12 @@
 use Rattle.std.proofs.Common.{true, false, sym, ◌∙◌, refl}
 use Rattle.std.proofs.lemmas.Result.{err_from_is_err_and}
-use Rattle.engine.specs.declared.updates.Meant.{Meant}
+use Rattle.engine.specs.declared.updates.Candidates.{Candidates}
 use Rattle.engine.proofs.MeantLemmas.{new_meant, none_meant, none_numbered}
 use Rattle.engine.proofs.engine.Engine.meant_in_none.Goals as goal
 
 pub returns-then-not-makes_any-clause-tries : goal.returns-then-not-makes_any-clause-tries
 returns-then-not-makes_any-clause-tries g c =
-    let m : Meant = record { number = 0; is_new = false; documents = c.new.result } in
+    let m : Candidates = record { number = 0; is_new = false; documents = c.new.result } in
     none_meant g.D.Disk.history c.args.statements.now c.args.self.now c.args.self.now m c.requires.sound c.new.ensures.items refl
     (sym c.makes_any.ensures ∙ c.if-not-makes_any.true)
 

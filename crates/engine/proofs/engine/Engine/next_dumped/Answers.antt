@@ -6,10 +6,10 @@ returns-in-Err-clause-goes_on g c =
     let old = c.args.self.now in
     let new = c.walk_on.new.self in
     let fault = c.told_fault.result in
-    let goes = c.in-Err.ensures.reads.goes in
-    let tells = as_fault_here g.D.Disk.history old new goes c.in-Err.fault fault c.troubles_of-before.ensures
+    let continues = c.in-Err.ensures.reads.continues in
+    let tells = as_fault_here g.D.Disk.history old new continues c.in-Err.fault fault c.troubles_of-before.ensures
     c.troubles_of.ensures c.told_fault.ensures in
-    dump_goes_told g.D.Disk.history old new goes c.in-Err.fault fault c.args.walk.now c.walk_on.new.walk c.in-Err.ensures
+    dump_goes_told g.D.Disk.history old new continues c.in-Err.fault fault c.args.walk.now c.walk_on.new.walk c.in-Err.ensures
     tells
 
 pub returns-in-Err-clause-memory : goal.returns-in-Err-clause-memory
@@ -17,10 +17,10 @@ returns-in-Err-clause-memory g c = λ k memory.
     let old = c.args.self.now in
     let new = c.walk_on.new.self in
     let fault = c.told_fault.result in
-    let goes = c.in-Err.ensures.reads.goes in
-    let tells = as_fault_here g.D.Disk.history old new goes c.in-Err.fault fault c.troubles_of-before.ensures
+    let continues = c.in-Err.ensures.reads.continues in
+    let tells = as_fault_here g.D.Disk.history old new continues c.in-Err.fault fault c.troubles_of-before.ensures
     c.troubles_of.ensures c.told_fault.ensures in
-    memory_told g.D.Disk.history old new goes c.in-Err.fault fault k tells cc
+    memory_told g.D.Disk.history old new continues c.in-Err.fault fault k tells cc
 
 pub returns-in-Ok-clause-memory : goal.returns-in-Ok-clause-memory
 returns-in-Ok-clause-memory g c = λ k memory. absurd cc

@@ -5,7 +5,7 @@ use Rattle.outcome.specs.Outcome.{◌>>=◌}
 use Rattle.path.specs.declared.refusal.Refusal.{Refusal}
 use Rattle.replies.specs.View.{outcome_of, Runs}
 use Rattle.engine.specs.Laws.{NeedsNoDisk, OnlyReads}
-use Rattle.engine.specs.Performing.{PerformsReading}
+use Rattle.engine.specs.Performing.{RunsReadingCommand}
 use Rattle.engine.specs.View.{world}
 use Rattle.engine.proofs.KeepingPins.{pins_as_before}
 use Rattle.engine.proofs.Sound.{lawful_world, performs_in_memory}
@@ -14,7 +14,7 @@ use Rattle.engine.proofs.engine.Engine.run.Goals as goal
 pub returns-in-Ok-clause-reads : goal.returns-in-Ok-clause-reads
 returns-in-Ok-clause-reads g c only =
     let old = c.args.self.now in
-    subst (λ (read : Result Command Refusal). PerformsReading g.D.Disk.history (read >>= run (world old) c.args.connection)
+    subst (λ (read : Result Command Refusal). RunsReadingCommand g.D.Disk.history (read >>= run (world old) c.args.connection)
     (outcome_of c.perform-outcome.result) old c.perform-outcome.new.self)
     (sym c.in-Ok.ensures.gives) (c.perform-outcome.ensures.reads (subst OnlyReads c.in-Ok.ensures.gives only))
 

@@ -11,7 +11,7 @@ returns-clause-looks g c =
     let history = g.D.Disk.history in
     let old = c.args.self.now in
     let new = record old { file = c.selected_in.new.file } in
-    let p = g.S.Selects.selects c.args.which.now in
+    let p = g.S.DocumentPredicate.selects c.args.which.now in
     asked_at_home history c.args.home.now old new
     (λ now of (found : Vec Pairs Global). found.items ≡ take c.args.most (filter p of.documents)) c.selected_in.result c.requires
     (looks_so_of history old new c.requires refl refl refl (IsAsked c.args.home.now)

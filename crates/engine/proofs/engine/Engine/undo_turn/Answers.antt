@@ -12,15 +12,15 @@ use Rattle.engine.proofs.engine.Engine.undo_turn.Goals as goal
 
 pub returns-clause-sound : goal.returns-clause-sound
 returns-clause-sound g c =
-    sound_again g.D.Disk.history c.args.self.now c.take_back.new.self c.requires.sound c.take_back.ensures.rests c.take_back.ensures.world
-    c.take_back.ensures.turn_start c.take_back.ensures.file.untouched c.take_back.ensures.file.state c.take_back.ensures.file.rests
-    (c.take_back.ensures.tied c.args.self.now.is_changed c.requires.sound.tied)
+    sound_again g.D.Disk.history c.args.self.now c.roll_back.new.self c.requires.sound c.roll_back.ensures.clean c.roll_back.ensures.world
+    c.roll_back.ensures.turn_start c.roll_back.ensures.file.untouched c.roll_back.ensures.file.state c.roll_back.ensures.file.clean
+    (c.roll_back.ensures.tied c.args.self.now.is_changed c.requires.sound.tied)
 
 pub returns-clause-rested : goal.returns-clause-rested
 returns-clause-rested g c =
-    rested_again g.D.Disk.history c.args.self.now c.take_back.new.self c.requires.sound c.take_back.ensures.rests c.take_back.ensures.world
-    c.take_back.ensures.turn_start c.take_back.ensures.file.untouched c.take_back.ensures.file.state c.take_back.ensures.file.rests
-    (c.take_back.ensures.tied c.args.self.now.is_changed c.requires.sound.tied)
+    rested_again g.D.Disk.history c.args.self.now c.roll_back.new.self c.requires.sound c.roll_back.ensures.clean c.roll_back.ensures.world
+    c.roll_back.ensures.turn_start c.roll_back.ensures.file.untouched c.roll_back.ensures.file.state c.roll_back.ensures.file.clean
+    (c.roll_back.ensures.tied c.args.self.now.is_changed c.requires.sound.tied)
 
 pub returns-then-not-self-clause-world : goal.returns-then-not-self-clause-world
 returns-then-not-self-clause-world g c =
@@ -40,9 +40,9 @@ returns-then-not-self-clause-sound g c =
       before = h.before;
       quiet = h.quiet;
       file = (end.ensures.releases old.is_changed).pins.state old.told.value.start old.told.value.now h.file;
-      unchanged = λ running rests.
+      unchanged = λ running clean.
           (end.ensures.releases old.is_changed).pins.unchanged
-          ∙ h.unchanged (sym (end.ensures.releases old.is_changed).pins.untouched.stopped ∙ running) rests;
+          ∙ h.unchanged (sym (end.ensures.releases old.is_changed).pins.untouched.stopped ∙ running) clean;
       tied = (end.ensures.releases old.is_changed).tied h.tied;
     }
 

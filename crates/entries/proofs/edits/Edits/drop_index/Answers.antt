@@ -14,4 +14,4 @@ returns-clause-drops c =
     on_ok c.put_indexes.result (λ catalogue.
     drops_index_at old new name home.number home.indexes.items c.args.at c.requires.within
     (subst (λ (js : List Definition). GoesOnBy old (catalogue_put name home.number js ∷ []) new)
-    (c.deref.ensures.value ∙ c.remove-index.ensures.items) catalogue)) c.put_indexes.ensures.goes
+    (c.deref.ensures.value ∙ c.remove-index.ensures.items) catalogue)) c.put_indexes.ensures.continues

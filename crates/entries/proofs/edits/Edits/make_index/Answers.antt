@@ -14,4 +14,4 @@ returns-clause-makes c =
     on_ok c.put_indexes.result (λ catalogue.
     makes_index_of c.args.self.now mid new name home.number home.indexes.items c.args.made c.requires.few c.in_ok-note_each.ensures
     (subst (λ (js : List Definition). GoesOnBy mid (catalogue_put name home.number js ∷ []) new)
-    (c.deref.ensures.value ∙ c.in_ok-push.ensures.items) catalogue)) c.put_indexes.ensures.goes
+    (c.deref.ensures.value ∙ c.in_ok-push.ensures.items) catalogue)) c.put_indexes.ensures.continues

@@ -22,8 +22,8 @@ returns-clause-ok c =
     (frame_of (pairs_bytes (catalogue_value c.args.number c.args.indexes.now))) c.in_ok-key.ensures c.in_ok-bytes.ensures.bytes made)
     c.note.ensures.ok
 
-pub returns-clause-goes : goal.returns-clause-goes
-returns-clause-goes c =
+pub returns-clause-continues : goal.returns-clause-continues
+returns-clause-continues c =
     on_ok c.note.result
     (λ made. noted_goes
     (catalogue_put c.args.namespace.now c.args.number c.args.indexes.now ∷ []) c.args.self.now c.note.new.self c.allocator-alloc.ensures.rises made)

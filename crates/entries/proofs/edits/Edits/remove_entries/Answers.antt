@@ -28,8 +28,8 @@ returns-clause-err c =
     if_err c.note_keys.result
     (λ some. subst (λ (es : List Edit). NotesSome c.args.self.now es c.note_keys.new.self) (ap removals same) some) c.note_keys.ensures.err
 
-pub returns-clause-goes : goal.returns-clause-goes
-returns-clause-goes c =
+pub returns-clause-continues : goal.returns-clause-continues
+returns-clause-continues c =
     on_ok c.note_keys.result
     (λ made. noted_goes
     (removals (index_entries c.args.number c.args.document.now c.args.index.now)) c.args.self.now c.note_keys.new.self c.allocator-alloc.ensures.rises made)

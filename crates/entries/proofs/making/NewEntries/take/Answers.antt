@@ -29,4 +29,4 @@ returns-clause-takes c =
     let clear = ap (is_taken old c.args.id.now) (sym c.deref.ensures.value) ∙ sym c.in_ok-is_taken.ensures ∙ c.if-branch.false in
     takes_next old (record { number = old.number; index = c.note_arrays.new.self; entries = c.put_entries.new.self }) c.args.document.now c.args.id.now
     (texts_of c.in_ok-keys.keys.items)
-    c.allocator.ensures.rises c.requires.text c.in_ok-keys.ensures.gives clear refl c.note_arrays.ensures c.in_ok-put_entries.ensures.goes
+    c.allocator.ensures.rises c.requires.text c.in_ok-keys.ensures.gives clear refl c.note_arrays.ensures c.in_ok-put_entries.ensures.continues

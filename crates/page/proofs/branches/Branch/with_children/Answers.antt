@@ -1,11 +1,11 @@
 use Rattle.std.proofs.Common.{◌≡◌, ◌≤◌, ◌+◌, ◌-◌, ◌++◌, [], ℕ, List, length, map, take, drop, sym, ap, ◌∙◌, subst, arith, vec_len, length-append}
 use Rattle.std.specs.List.{AllByRecursion, flat_map}
 use Rattle.std.proofs.lemmas.List.{length-take-le}
-use Rattle.page.specs.Content.{arm_size}
-use Rattle.page.specs.Format.{arm_bytes}
-use Rattle.page.specs.CellView.{arm_of}
-use Rattle.page.proofs.CellLemmas.{length-arm}
-use Rattle.page.proofs.ExchangeLemmas.{arms_take, drop_places, each_place, made_there, new_room, new_sound, now_sound, start_small}
+use Rattle.page.specs.Content.{pivot_size}
+use Rattle.page.specs.Format.{pivot_bytes}
+use Rattle.page.specs.CellView.{pivot_of}
+use Rattle.page.proofs.CellLemmas.{length-pivot}
+use Rattle.page.proofs.ExchangeLemmas.{pivots_take, drop_places, each_place, made_there, new_room, new_sound, now_sound, start_small}
 use Rattle.page.proofs.PlaceLemmas.{length-joined}
 use Rattle.page.proofs.ReadLemmas.{slice_same}
 use Rattle.page.proofs.branches.Branch.with_children.Goals as goal
@@ -20,7 +20,7 @@ slice_bounds-extend_from_slice-end c =
     )))
 
 pub append_children-requires-clause-each : goal.append_children-requires-clause-each
-append_children-requires-clause-each c = new_sound c.args.from c.args.to (map arm_of c.args.children.now) c.args.self.now c.requires.sound
+append_children-requires-clause-each c = new_sound c.args.from c.args.to (map pivot_of c.args.children.now) c.args.self.now c.requires.sound
 
 front_long : (bytes none front : List ℕ) (start : ℕ) → front ≡ none ++ take start bytes → none ≡ [] → start ≤ length bytes → length front ≡ start
 front_long bytes none front start is none_is le =
@@ -39,7 +39,7 @@ append_children-requires-clause-room c =
             ap (λ (l : List ℕ). length l) c.deref.ensures.value,
           )),
       c.start.ensures,
-      new_room c.args.from c.args.to (map arm_of c.args.children.now) c.args.self.now c.requires.some
+      new_room c.args.from c.args.to (map pivot_of c.args.children.now) c.args.self.now c.requires.some
           (now_sound bytes places c.args.self.now c.self.invariant c.self.view_is).some c.requires.sound,
     )
 
@@ -47,14 +47,14 @@ pub append_places-requires-clause-to : goal.append_places-requires-clause-to
 append_places-requires-clause-to c =
     let bytes = c.self.inside.bytes.items in
     let places = c.self.inside.places.items in
-    let new = map arm_of c.args.children.now in
+    let new = map pivot_of c.args.children.now in
     omega (
       arith,
       c.len-2.ensures,
       c.append_children.new.bytes.ok,
       ap (λ (l : List ℕ). length l) c.in_ok-append_children.ensures.bytes,
-      length-append c.extend_from_slice.new.self.items (flat_map arm_bytes new),
-      length-joined arm_bytes arm_size length-arm new,
+      length-append c.extend_from_slice.new.self.items (flat_map pivot_bytes new),
+      length-joined pivot_bytes pivot_size length-pivot new,
       front_long c.deref.result.now c.in_ok-bytes.bytes.items c.extend_from_slice.new.self.items c.start.result c.in_ok-extend_from_slice.ensures.items
           c.in_ok-bytes.ensures.items (omega (
             arith,
@@ -74,15 +74,15 @@ append_places-requires-clause-small c =
 
 pub slice_bounds-extend_from_slice-count-2 : goal.slice_bounds-extend_from_slice-count-2
 slice_bounds-extend_from_slice-count-2 c =
-    omega (arith, c.start-stop.ensures, c.size-size.ensures, arms_take c.args.to c.args.self.now)
+    omega (arith, c.start-stop.ensures, c.size-size.ensures, pivots_take c.args.to c.args.self.now)
 
 pub slice_bounds-extend_from_slice-start : goal.slice_bounds-extend_from_slice-start
 slice_bounds-extend_from_slice-start c =
-    omega (arith, c.start-stop.ensures, c.size-size.ensures, arms_take c.args.to c.args.self.now)
+    omega (arith, c.start-stop.ensures, c.size-size.ensures, pivots_take c.args.to c.args.self.now)
 
 pub invariant_of-result : goal.invariant_of-result
 invariant_of-result c =
-    (made_there c.self.inside.bytes.items c.self.inside.places.items c.args.self.now (map arm_of c.args.children.now) c.args.from c.args.to
+    (made_there c.self.inside.bytes.items c.self.inside.places.items c.args.self.now (map pivot_of c.args.children.now) c.args.from c.args.to
     c.self.invariant c.self.view_is c.requires.some c.requires.order c.requires.sound
     c.start.result c.start-stop.result c.size-size.result c.len-2.result (vec_len c.extend_from_slice-3.new.self) c.in_ok-bytes.bytes.items
     c.in_ok-places.places.items c.extend_from_slice.new.self.items c.extend_from_slice-2.new.self.items
@@ -101,7 +101,7 @@ invariant_of-result c =
 
 pub returns : goal.returns
 returns c =
-    (made_there c.self.inside.bytes.items c.self.inside.places.items c.args.self.now (map arm_of c.args.children.now) c.args.from c.args.to
+    (made_there c.self.inside.bytes.items c.self.inside.places.items c.args.self.now (map pivot_of c.args.children.now) c.args.from c.args.to
     c.self.invariant c.self.view_is c.requires.some c.requires.order c.requires.sound
     c.start.result c.start-stop.result c.size-size.result c.len-2.result (vec_len c.extend_from_slice-3.new.self) c.in_ok-bytes.bytes.items
     c.in_ok-places.places.items c.extend_from_slice.new.self.items c.extend_from_slice-2.new.self.items

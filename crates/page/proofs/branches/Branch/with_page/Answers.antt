@@ -1,5 +1,5 @@
 use Rattle.std.proofs.Common.{◌∙◌, List, ℕ, ap, length, subst, sym, arith}
-use Rattle.page.specs.Format.{arms_at}
+use Rattle.page.specs.Format.{pivots_at}
 use Rattle.page.specs.Kept.{KeepsBranch}
 use Rattle.page.proofs.ChildPageLemmas.{now_room, patched, place_room, with_is, with_kept}
 use Rattle.page.proofs.branches.Branch.with_page.Goals as goal
@@ -28,7 +28,7 @@ pub returns : goal.returns
 returns c =
     let bytes = c.self.inside.bytes.items in
     let places = c.self.inside.places.items in
-    ap (arms_at c.in_ok-bytes.bytes.items) (c.in_ok-places.ensures.items ∙ c.deref-2.ensures.value)
+    ap (pivots_at c.in_ok-bytes.bytes.items) (c.in_ok-places.ensures.items ∙ c.deref-2.ensures.value)
     ∙ with_is c.args.i c.args.page
     (omega (arith, c.ranges.page.fits)) bytes places c.in_ok-bytes.bytes.items c.args.self.now c.self.invariant c.self.view_is c.requires
     (c.in_ok-bytes.ensures ∙ (λ j. patched (c.number_place.ensures j) c.args.page (c.deref.ensures.value j)))

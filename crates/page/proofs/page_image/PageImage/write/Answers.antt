@@ -1,6 +1,6 @@
 use Rattle.std.proofs.Common.{ℕ, List, length, refl, ap, ◌∙◌, arith}
 use Rattle.page.specs.Format.{page_bytes}
-use Rattle.page.proofs.KeptLemmas.{few_items, few_arms, leaf_len, branch_len}
+use Rattle.page.proofs.KeptLemmas.{few_items, few_pivots, leaf_len, branch_len}
 use Rattle.page.proofs.page_image.PageImage.write.Goals as goal
 
 pub write_tree_page-requires-clause-count : goal.write_tree_page-requires-clause-count
@@ -11,7 +11,7 @@ write_tree_page-requires-clause-body c = ap (λ (l : List ℕ). length l) c.byte
 
 pub write_tree_page-requires-in-Branch-clause-count : goal.write_tree_page-requires-in-Branch-clause-count
 write_tree_page-requires-in-Branch-clause-count c =
-    omega (arith, c.len-in-Branch.ensures.count, c.len-in-Branch.ensures.sound.room, few_arms c.in-Branch.branch)
+    omega (arith, c.len-in-Branch.ensures.count, c.len-in-Branch.ensures.sound.room, few_pivots c.in-Branch.branch)
 
 pub write_tree_page-requires-in-Branch-clause-body : goal.write_tree_page-requires-in-Branch-clause-body
 write_tree_page-requires-in-Branch-clause-body c =

@@ -1,5 +1,5 @@
 use Rattle.std.proofs.Common.{◌≡◌, ℕ, List, length, take, sym, subst, ap, ◌∙◌}
-use Rattle.page.specs.Format.{Sheet}
+use Rattle.page.specs.Format.{PageModel}
 use Rattle.freelist.specs.Book.{Book, undone}
 use Rattle.pager.specs.Kept.{IsKept}
 use Rattle.pager.specs.Pinning.{KeepsOlder}
@@ -18,7 +18,7 @@ invariant_of-self g c =
     let book : c.undo_to.new.self ≡ undone c.args.mark.made i.book = c.undo_to.ensures ∙ ap (λ (n : ℕ). undone n i.book) c.args.mark.same in
     subst (λ (ps : List ℕ). IsKept g.D.Disk.history i.store i.cache c.truncate.new.self.items c.undo_to.new.self i.listed.items ps)
     (sym c.keep_lower.ensures)
-    (subst (λ (m : List Sheet). IsKept g.D.Disk.history i.store i.cache m c.undo_to.new.self i.listed.items (lower_than c.args.mark.made i.places.items))
+    (subst (λ (m : List PageModel). IsKept g.D.Disk.history i.store i.cache m c.undo_to.new.self i.listed.items (lower_than c.args.mark.made i.places.items))
     (sym c.truncate.ensures.items)
     (subst
     (λ (b : Book). IsKept g.D.Disk.history i.store i.cache (take c.args.mark.made i.made.items) b i.listed.items (lower_than c.args.mark.made i.places.items))
@@ -33,7 +33,7 @@ returns-clause-begun g c =
     let made = c.args.mark.made in
     let retired = c.args.mark.retired in
     let book : c.undo_to.new.self ≡ undone made i.book = c.undo_to.ensures ∙ ap (λ (n : ℕ). undone n i.book) c.args.mark.same in
-    let after : List Sheet → List ℕ → Book → State D = λ m r b. record { store = i.store; made = m; retired = r; book = b } in
+    let after : List PageModel → List ℕ → Book → State D = λ m r b. record { store = i.store; made = m; retired = r; book = b } in
     let p : State D = after i.made.items i.retired.items i.book in
     subst (λ (s : State D). LeadsBack history made retired s (after c.truncate.new.self.items c.truncate-2.new.self.items c.undo_to.new.self)) c.self.view_is
     (subst (LeadsBack history made retired p) (λ j. after (sym c.truncate.ensures.items j) (sym c.truncate-2.ensures.items j) (sym book j))
@@ -47,7 +47,7 @@ returns-clause-returns g c =
     let made = c.args.mark.made in
     let retired = c.args.mark.retired in
     let book : c.undo_to.new.self ≡ undone made i.book = c.undo_to.ensures ∙ ap (λ (n : ℕ). undone n i.book) c.args.mark.same in
-    let after : List Sheet → List ℕ → Book → State D = λ m r b. record { store = i.store; made = m; retired = r; book = b } in
+    let after : List PageModel → List ℕ → Book → State D = λ m r b. record { store = i.store; made = m; retired = r; book = b } in
     let p : State D = after i.made.items i.retired.items i.book in
     subst (λ (s : State D). Returns history made retired s (after c.truncate.new.self.items c.truncate-2.new.self.items c.undo_to.new.self)) c.self.view_is
     (subst (Returns history made retired p) (λ j. after (sym c.truncate.ensures.items j) (sym c.truncate-2.ensures.items j) (sym book j))
@@ -61,7 +61,7 @@ returns-clause-versions g c =
     let made = c.args.mark.made in
     let retired = c.args.mark.retired in
     let book : c.undo_to.new.self ≡ undone made i.book = c.undo_to.ensures ∙ ap (λ (n : ℕ). undone n i.book) c.args.mark.same in
-    let after : List Sheet → List ℕ → Book → State D = λ m r b. record { store = i.store; made = m; retired = r; book = b } in
+    let after : List PageModel → List ℕ → Book → State D = λ m r b. record { store = i.store; made = m; retired = r; book = b } in
     let p : State D = after i.made.items i.retired.items i.book in
     subst (λ (s : State D). KeepsOlder history made s (after c.truncate.new.self.items c.truncate-2.new.self.items c.undo_to.new.self)) c.self.view_is
     (subst (KeepsOlder history made p) (λ j. after (sym c.truncate.ensures.items j) (sym c.truncate-2.ensures.items j) (sym book j))

@@ -1,7 +1,7 @@
 use Rattle.std.proofs.Common.{rules, ◌≡◌, ◌∙◌, Err, Ok, sym}
 use Rattle.page.specs.History.{now, reads}
 use Rattle.freelist.specs.FreeList.{opened_by}
-use Rattle.roots.specs.Image.{sheet_at}
+use Rattle.roots.specs.Image.{model_at}
 use Rattle.roots.specs.Listed.{OnlyReads}
 use Rattle.roots.specs.ListedLaws.{reads_more}
 use Rattle.roots.specs.declared.opening.OpenFault.TheVariants as faults
@@ -24,10 +24,10 @@ returns-in-Err-clause-finds g c =
     let new = c.read_named.new.store in
     let first = c.in_ok-check_tree_page.ensures.same in
     let then = c.in-Err.ensures.reads in
-    let sheets = sheet_at (reads (now (history old.disk))) old.root in
+    let models = model_at (reads (now (history old.disk))) old.root in
     finds history c.args.limit (Err c.read_fault.result) old new (reads_more history old mid new first then) tt
-    (λ k is. list_fails sheets old.root c.args.limit c.in-Err.fault
-    (list_then history old mid (Err c.in-Err.fault) first (then.disk.on.kept k) (c.in-Err.ensures.list k)) (sym c.read_fault.ensures ∙ is))
+    (λ k is. list_fails models old.root c.args.limit c.in-Err.fault
+    (list_then history old mid (Err c.in-Err.fault) first (then.disk.extends.kept k) (c.in-Err.ensures.list k)) (sym c.read_fault.ensures ∙ is))
 
 pub returns-in_err-book-clause-finds : goal.returns-in_err-book-clause-finds
 returns-in_err-book-clause-finds g c =
@@ -49,10 +49,10 @@ returns-clause-finds g c =
     let first = c.in_ok-check_tree_page.ensures.same in
     let then = c.in-Ok.ensures.reads in
     let only : OnlyReads history old new = reads_more history old mid new first then in
-    let sheets = sheet_at (reads (now (history old.disk))) old.root in
+    let models = model_at (reads (now (history old.disk))) old.root in
     let is : book ≡ opened_by list.named.items old.root.pages (room_of c.args.limit old.root) old.root.generation =
     c.in_ok-book.ensures
     ∙ (λ i. opened_by (c.deref.ensures.value i) (only.root i).pages (room_of c.args.limit (only.root i)) (only.root i).generation) in
     finds history c.args.limit (Ok (book, list.pages)) old new only (listed_new book list.named.items c.args.limit old.root is)
-    (λ k. list_tells sheets old.root c.args.limit book list.pages list.named.items c.requires
-    (list_then history old mid (Ok list) first (then.disk.on.kept k) (c.in-Ok.ensures.list k)) is)
+    (λ k. list_tells models old.root c.args.limit book list.pages list.named.items c.requires
+    (list_then history old mid (Ok list) first (then.disk.extends.kept k) (c.in-Ok.ensures.list k)) is)

@@ -18,8 +18,8 @@ use Rattle.server.proofs.CauseLemmas.{in_turn_itself}
 use Rattle.server.proofs.Images.{unmoved, same_moment}
 use Rattle.server.proofs.turn.Core.do_step.Goals as goal
 
-pub returns-else-is_err-clause-does : goal.returns-else-is_err-clause-does
-returns-else-is_err-clause-does g c =
+pub returns-else-is_err-clause-as_planned : goal.returns-else-is_err-clause-as_planned
+returns-else-is_err-clause-as_planned g c =
     let history = g.D.Disk.history in
     let first : Instant = instant_of history c.args.self.now in
     let last : Instant = instant_of history c.turn.new.self in
@@ -40,8 +40,8 @@ returns-else-is_err-clause-does g c =
 pub returns-in-Err-Memory-clause-disk : goal.returns-in-Err-Memory-clause-disk
 returns-in-Err-Memory-clause-disk g c = unmoved g.D.Disk.history c.args.self.now c.feed.new.self c.requires.sound c.feed.ensures.disk
 
-pub returns-in-Err-Closed-clause-does : goal.returns-in-Err-Closed-clause-does
-returns-in-Err-Closed-clause-does g c =
+pub returns-in-Err-Closed-clause-as_planned : goal.returns-in-Err-Closed-clause-as_planned
+returns-in-Err-Closed-clause-as_planned g c =
     bytes_on c.args.step.now c.in-Bytes.id c.in-Bytes.chunk c.args.out.now (instant_of g.D.Disk.history c.args.self.now)
     (instant_of g.D.Disk.history c.feed.new.self) c.in-Bytes.is
     (c.in-Err-Closed.ensures.fed (λ e. absurd cc) ∙ ap (fed (state c.args.self.now) c.in-Bytes.id) c.deref.ensures.value)
@@ -50,8 +50,8 @@ returns-in-Err-Closed-clause-does g c =
 pub returns-in-Err-Closed-clause-disk : goal.returns-in-Err-Closed-clause-disk
 returns-in-Err-Closed-clause-disk g c = unmoved g.D.Disk.history c.args.self.now c.feed.new.self c.requires.sound c.feed.ensures.disk
 
-pub returns-in-Ok-clause-does : goal.returns-in-Ok-clause-does
-returns-in-Ok-clause-does g c =
+pub returns-in-Ok-clause-as_planned : goal.returns-in-Ok-clause-as_planned
+returns-in-Ok-clause-as_planned g c =
     bytes_on c.args.step.now c.in-Bytes.id c.in-Bytes.chunk c.args.out.now (instant_of g.D.Disk.history c.args.self.now)
     (instant_of g.D.Disk.history c.feed.new.self) c.in-Bytes.is
     (c.in-Ok.ensures.fed (λ e. absurd cc) ∙ ap (fed (state c.args.self.now) c.in-Bytes.id) c.deref.ensures.value)
@@ -60,8 +60,8 @@ returns-in-Ok-clause-does g c =
 pub returns-in-Ok-clause-disk : goal.returns-in-Ok-clause-disk
 returns-in-Ok-clause-disk g c = unmoved g.D.Disk.history c.args.self.now c.feed.new.self c.requires.sound c.feed.ensures.disk
 
-pub returns-in-Gone-clause-does : goal.returns-in-Gone-clause-does
-returns-in-Gone-clause-does g c =
+pub returns-in-Gone-clause-as_planned : goal.returns-in-Gone-clause-as_planned
+returns-in-Gone-clause-as_planned g c =
     gone_on c.args.step.now c.in-Gone.id c.args.out.now (instant_of g.D.Disk.history c.args.self.now)
     (instant_of g.D.Disk.history c.gone.new.self) c.in-Gone.is c.gone.ensures.state
     c.gone.ensures.moment
@@ -71,21 +71,21 @@ returns-in-Gone-clause-disk g c = unmoved g.D.Disk.history c.args.self.now c.gon
 
 pub returns-then-is_err-clause-disk : goal.returns-then-is_err-clause-disk
 returns-then-is_err-clause-disk g c = record {
-  on = c.turn.ensures.on;
+  extends = c.turn.ensures.extends;
   any_moment = c.turn.ensures.any_moment;
   idle = λ stop. (c.turn.ensures.idle stop).1;
 }
 
 pub returns-else-is_err-clause-disk : goal.returns-else-is_err-clause-disk
 returns-else-is_err-clause-disk g c = record {
-  on = c.turn.ensures.on;
+  extends = c.turn.ensures.extends;
   any_moment = c.turn.ensures.any_moment;
   idle = λ stop. (c.turn.ensures.idle stop).1;
 }
 
 pub returns-in-Err-clause-disk : goal.returns-in-Err-clause-disk
 returns-in-Err-clause-disk g c = record {
-  on = c.turn.ensures.on;
+  extends = c.turn.ensures.extends;
   any_moment = c.turn.ensures.any_moment;
   idle = λ stop. (c.turn.ensures.idle stop).1;
 }

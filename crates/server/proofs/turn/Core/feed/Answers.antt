@@ -32,7 +32,7 @@ returns-clause-sound g c = record {
   engine = c.requires.sound.engine;
   idle = c.requires.sound.idle;
   rested = c.requires.sound.rested;
-  rests = c.requires.sound.rests;
+  clean = c.requires.sound.clean;
   ascending = ascends_fed c.feed_connection.result c.args.self.now.connections.items c.feed_connection.new.connections.items c.args.id c.args.bytes.now
       c.requires.sound.ascending c.feed_connection.ensures.fed c.feed_connection.ensures.err;
 }

@@ -11,7 +11,7 @@ returns-clause-sound g c = record {
   engine = c.gone.ensures.sound;
   idle = c.gone.ensures.turn_start ∙ c.requires.sound.idle ∙ sym (ap (λ (w : World). w.collections) c.gone.ensures.world);
   rested = c.gone.ensures.rested c.requires.sound.rested;
-  rests = c.gone.ensures.has_changes ∙ c.requires.sound.rests;
+  clean = c.gone.ensures.has_changes ∙ c.requires.sound.clean;
   ascending = ap are_ascending c.end_connection.ensures ∙ drop_ascends c.args.self.now.connections.items c.args.id c.requires.sound.ascending;
 }
 

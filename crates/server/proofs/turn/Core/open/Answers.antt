@@ -9,7 +9,7 @@ returns-in-Ok-clause-opened g c =
         engine = opened.sound;
         idle = opened.idle;
         rested = search rules;
-        rests = opened.rests;
+        clean = opened.clean;
         ascending = search rules;
       };
       engine = opened;

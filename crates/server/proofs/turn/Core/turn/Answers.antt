@@ -2,7 +2,7 @@ use Rattle.std.proofs.Common.{◌≡◌, ℕ, List, ⊎_elim, ap, length, inl, i
 use Rattle.std.specs.Prelude.{Bool}
 use Rattle.engine.specs.View.{world}
 use Rattle.engine.specs.Durable.{disk_history}
-use Rattle.opening.specs.Holding.{Holds}
+use Rattle.opening.specs.Holding.{HoldsCollections}
 use Rattle.server.specs.Causes.{IsCaused}
 use Rattle.server.specs.History.{TakenBack}
 use Rattle.server.specs.Moment.{Moment, FollowsInTurn}
@@ -86,7 +86,7 @@ returns-then-is_stopped g c = record {
   leaves = tt;
   fails = search rules;
   untouched = λ e. absurd cc;
-  on = search rules;
+  extends = search rules;
   any_moment = search rules;
   acknowledged = search rules;
   running = search rules;
@@ -111,9 +111,9 @@ returns-in_err-refusals g c = record {
   leaves = search rules;
   fails = search rules;
   untouched = λ _. refl;
-  on = search rules;
+  extends = search rules;
   any_moment = let engine = c.args.self.now.engine in
-      stays (trusted_history g.D.Disk.history) engine engine (λ image. Holds image (world engine).collections) c.requires.sound.engine
+      stays (trusted_history g.D.Disk.history) engine engine (λ image. HoldsCollections image (world engine).collections) c.requires.sound.engine
       c.requires.sound.idle refl;
   acknowledged = search rules;
   running = search rules;
@@ -139,7 +139,7 @@ returns-in_default g c =
         engine = ran.sound;
         idle = ran.idle;
         rested = ran.rested;
-        rests = ran.rests;
+        clean = ran.clean;
         ascending = ap are_ascending ran.taken ∙ taken_ascends core.connections.items c.requires.sound.ascending;
       };
       turns = search rules;
@@ -159,7 +159,7 @@ returns-in_default g c =
           } in
           subst (λ (b : Bool). TurnFails kept (IsCaused old new) (state core) turns.Stopped b after) (sym runs) cut;
       untouched = λ e. absurd cc;
-      on = ran.on;
+      extends = ran.extends;
       any_moment = λ _. ran.any_moment;
       acknowledged = search rules;
       running = search rules;
@@ -200,15 +200,15 @@ returns g c =
     (engine_moment history c.run_messages.new.engine) new
     (sym forgot.moment) c.in-Some.ensures.settles in
     let behind : Continues history core.engine c.run_messages.new.engine → Continues history core.engine c.forget_closed.new.engine =
-    λ goes. continues_further history core.engine c.run_messages.new.engine c.forget_closed.new.engine goes
+    λ continues. continues_further history core.engine c.run_messages.new.engine c.forget_closed.new.engine continues
     (continues_still history c.run_messages.new.engine c.forget_closed.new.engine forgot.disk forgot.running
-    (ap (λ (m : Moment). m.generation) forgot.moment) (ap (λ (m : Moment). m.full_takes) forgot.moment) forgot.reads) in
+    (ap (λ (m : Moment). m.generation) forgot.moment) (ap (λ (m : Moment). m.failed_allocations) forgot.moment) forgot.reads) in
     record {
       sound = record {
         engine = forgot.sound;
         idle = forgot.idle;
         rested = forgot.rested;
-        rests = forgot.has_changes ∙ ran.rests;
+        clean = forgot.has_changes ∙ ran.clean;
         ascending = ap are_ascending left ∙ after_ascends connections c.requires.sound.ascending;
       };
       turns = λ k. turned word (IsCaused old new) (TakenBack old new) core old.generation new.generation frames
@@ -222,7 +222,7 @@ returns g c =
       leaves = left;
       fails = search rules;
       untouched = λ e. absurd cc;
-      on = search rules;
+      extends = search rules;
       any_moment = λ _. let closed = prepared.closed.items in
           forgotten history core.engine c.run_messages.new.engine c.forget_closed.new.engine closed forgot.disk forgets ran.any_moment;
       acknowledged = λ running. engine_holds history c.forget_closed.new.engine forgot.sound forgot.idle (forgot.running ∙ c.in-Some.ensures.running ∙ running);

@@ -1,5 +1,0 @@
-use Rattle.asked_documents.proofs.SelectsLemmas.{only_at}
-use Rattle.asked_documents.proofs.selects.FilterSelects.filter_at.Goals as goal
-
-pub returns : goal.returns
-returns c = only_at c.args.self.now c.args._at

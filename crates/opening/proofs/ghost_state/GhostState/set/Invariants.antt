@@ -1,0 +1,4 @@
+use Rattle.opening.proofs.ghost_state.GhostState.set.Given as goal
+
+abbrev pub ghost-any : goal.ghost-any
+ghost-any g a = g.to

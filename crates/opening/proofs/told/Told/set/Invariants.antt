@@ -1,4 +1,0 @@
-use Rattle.opening.proofs.told.Told.set.Given as goal
-
-abbrev pub ghost-any : goal.ghost-any
-ghost-any g a = g.to

@@ -1,4 +1,0 @@
-use Rattle.opening.proofs.told.Told.take_back.Given as goal
-
-abbrev pub ghost-set : goal.ghost-set
-ghost-set a = record { start = a.self.now.value.start; now = a.self.now.value.start }
