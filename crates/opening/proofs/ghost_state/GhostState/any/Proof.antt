@@ -11,7 +11,7 @@ use denote.Steps.{nothing}
 use denote.Struct.Struct.{within}
 use denote.Triple.Entry.{on_entry}
 use denote.Triple.Walked.{walk_of, says, ends_at}
-use Rattle.opening.specs.contracts.told.GhostState.any as f
+use Rattle.opening.specs.contracts.ghost_state.GhostState.any as f
 use Rattle.opening.proofs.ghost_state.GhostState.any.Statement.{statement}
 use Rattle.opening.proofs.ghost_state.GhostState.any.Code as code
 
