@@ -25,7 +25,8 @@ pub(crate) fn chain_bytes<P: Pages>(
     ensures grows { Grows (P.store pages.old) (P.store pages.new) }
     ensures same { KeepsWord (P.store pages.new)
         → IsSame (P.store pages.old) (P.store pages.new) }
-    ensures takes { (P.store pages.new).failed_allocations ≡ (P.store pages.old).failed_allocations }
+    ensures takes { (P.store pages.new).failed_allocations
+        ≡ (P.store pages.old).failed_allocations }
     ensures full { IfErr result IsNotFull }
     ensures reads { (links value : List ℕ) → HasLinks (P.store pages.old) links value
         → next_of links ≡ first
@@ -62,7 +63,8 @@ pub(crate) fn value_bytes<P: Pages>(
     ensures grows { Grows (P.store pages.old) (P.store pages.new) }
     ensures same { KeepsWord (P.store pages.new)
         → IsSame (P.store pages.old) (P.store pages.new) }
-    ensures takes { (P.store pages.new).failed_allocations ≡ (P.store pages.old).failed_allocations }
+    ensures takes { (P.store pages.new).failed_allocations
+        ≡ (P.store pages.old).failed_allocations }
     ensures full { IfErr result IsNotFull }
     ensures reads { (x : Pair) → place_in stored.entry ≡ place_of x.links x.value
         → HasChain (P.store pages.old) x

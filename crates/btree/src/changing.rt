@@ -20,9 +20,9 @@ use crate::node::{LooseNode, LooseSlot, loose_slots_of_cells, page_below};
 use crate::one_child::{
     child_of_all, go_between, page_of_one, place_behind, write_between, write_branch,
 };
-use crate::opening::{children_between, leaf_cells, loose_slots_of_branch};
 use crate::search::{branch_child, leaf_key, low_bound};
 use crate::settling::settle;
+use crate::taking_apart::{children_between, leaf_cells, loose_slots_of_branch};
 use crate::{Pages, TreeFault};
 use key_order::compare_keys;
 use page::{Branch, Leaf, PageContent};

@@ -21,7 +21,8 @@ const INLINE: usize = 330;
 
 // The bytes of a cell or child, where they are no more than a cell may have.
 fn loose_slot_size(loose_slot: &LooseSlot) -> usize
-    ensures small { slot_size (slot_in loose_slot.now) ≤ 4080 → result ≡ slot_size (slot_in loose_slot.now) }
+    ensures small { slot_size (slot_in loose_slot.now) ≤ 4080
+        → result ≡ slot_size (slot_in loose_slot.now) }
     ensures large { result ≤ 4080 → result ≡ slot_size (slot_in loose_slot.now) }
 {
     let value = match &loose_slot.payload {
@@ -162,7 +163,8 @@ fn is_enough(loose_slots: &[LooseSlot], whole: usize, at: usize) -> bool
     requires over { 4080 < slots_size (map slot_in loose_slots.now) }
     ensures within { result ≡ true → at ≤ length loose_slots.now }
     ensures enough { result ≡ true → Each IsSlot (map slot_in loose_slots.now)
-        → IsPart false (map slot_in loose_slots.now) at × IsFullPart (map slot_in loose_slots.now) at }
+        → IsPart false (map slot_in loose_slots.now) at
+        × IsFullPart (map slot_in loose_slots.now) at }
 {
     if at > whole || loose_slots.len() - at < 2 {
         return false;

@@ -65,7 +65,8 @@ fn lend_chained<P: Pages, F: Fold>(
     ensures grows { Grows (P.store pages.old) (P.store pages.new) }
     ensures same { KeepsWord (P.store pages.new)
         → IsSame (P.store pages.old) (P.store pages.new) }
-    ensures takes { (P.store pages.new).failed_allocations ≡ (P.store pages.old).failed_allocations }
+    ensures takes { (P.store pages.new).failed_allocations
+        ≡ (P.store pages.old).failed_allocations }
     ensures full { IfErr result IsNotFull }
     ensures lent { (start : F) → HasTaken F.makes start fold.old
         → OnOk result (HasTaken F.makes start fold.new) }
@@ -92,7 +93,8 @@ fn lend<P: Pages, F: Fold>(
     ensures grows { Grows (P.store pages.old) (P.store pages.new) }
     ensures same { KeepsWord (P.store pages.new)
         → IsSame (P.store pages.old) (P.store pages.new) }
-    ensures takes { (P.store pages.new).failed_allocations ≡ (P.store pages.old).failed_allocations }
+    ensures takes { (P.store pages.new).failed_allocations
+        ≡ (P.store pages.old).failed_allocations }
     ensures full { IfErr result IsNotFull }
     ensures lent { (start : F) → HasTaken F.makes start fold.old
         → OnOk result (HasTaken F.makes start fold.new) }
@@ -118,7 +120,8 @@ fn fold_leaf<P: Pages, F: Fold>(
     ensures grows { Grows (P.store pages.old) (P.store pages.new) }
     ensures same { KeepsWord (P.store pages.new)
         → IsSame (P.store pages.old) (P.store pages.new) }
-    ensures takes { (P.store pages.new).failed_allocations ≡ (P.store pages.old).failed_allocations }
+    ensures takes { (P.store pages.new).failed_allocations
+        ≡ (P.store pages.old).failed_allocations }
     ensures full { IfErr result IsNotFull }
     ensures lent { (start : F) → HasTaken F.makes start fold.old
         → OnOk result (HasTaken F.makes start fold.new) }
@@ -152,7 +155,8 @@ fn fold_below<P: Pages, F: Fold>(
     ensures grows { Grows (P.store pages.old) (P.store pages.new) }
     ensures same { KeepsWord (P.store pages.new)
         → IsSame (P.store pages.old) (P.store pages.new) }
-    ensures takes { (P.store pages.new).failed_allocations ≡ (P.store pages.old).failed_allocations }
+    ensures takes { (P.store pages.new).failed_allocations
+        ≡ (P.store pages.old).failed_allocations }
     ensures full { IfErr result IsNotFull }
     ensures lent { (start : F) → HasTaken F.makes start fold.old
         → OnOk result (HasTaken F.makes start fold.new) }
@@ -204,7 +208,8 @@ pub fn fold_entries<P: Pages, F: Fold>(
     ensures grows { Grows (P.store pages.old) (P.store pages.new) }
     ensures same { KeepsWord (P.store pages.new)
         → IsSame (P.store pages.old) (P.store pages.new) }
-    ensures takes { (P.store pages.new).failed_allocations ≡ (P.store pages.old).failed_allocations }
+    ensures takes { (P.store pages.new).failed_allocations
+        ≡ (P.store pages.old).failed_allocations }
     ensures full { IfErr result IsNotFull }
     ensures empty { root ≡ 0 → (result ≡ Ok tt) × (fold.new ≡ fold.old) }
     ensures lent { (start : F) → HasTaken F.makes start fold.old

@@ -10,7 +10,7 @@ ghost use Rattle.btree.specs.Turn.{GoesBefore, IsHeld, IsJoined, IsReady, IsUpTo
 
 use crate::cutting::{ROOM, THIRD, loose_slots_within};
 use crate::node::{LooseNode, LooseSlot, page_below};
-use crate::opening::{concat, open_page, raise};
+use crate::taking_apart::{concat, open_page, raise};
 use crate::{Pages, TreeFault};
 use std::alloc::Global;
 
@@ -150,7 +150,8 @@ fn raise_behind<P: Pages>(
     ensures rank { IfOk result (λ both. both.rank ≡ front.rank) }
     ensures long { 0 < length below.loose_slots.items
         → IfOk result (λ both. length front.loose_slots.items + 1 ≤ length both.loose_slots.items) }
-    ensures few { IsLittle 10880 (model_in below) → Each IsSlot (map slot_in front.loose_slots.items)
+    ensures few { IsLittle 10880 (model_in below)
+        → Each IsSlot (map slot_in front.loose_slots.items)
         → GivesFew (P.store pages.old) (P.store pages.new) front.rank
         (slots_size (map slot_in front.loose_slots.items) + 5440) 4 result }
     ensures turns { (base : ℕ) (low mid : List ℕ) (high : Option (List ℕ)) (first last : List Entry)

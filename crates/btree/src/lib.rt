@@ -12,13 +12,13 @@ pub mod laws;
 mod lookup;
 mod node;
 mod one_child;
-mod opening;
 mod pages;
 mod parts;
 mod root;
 mod scanning;
 mod search;
 mod settling;
+mod taking_apart;
 
 pub use editing::Edit;
 pub use folding::{Bounds, Fold, fold_entries};

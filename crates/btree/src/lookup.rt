@@ -43,7 +43,8 @@ fn value_in_leaf<P: Pages>(
     ensures grows { Grows (P.store pages.old) (P.store pages.new) }
     ensures same { KeepsWord (P.store pages.new)
         → IsSame (P.store pages.old) (P.store pages.new) }
-    ensures takes { (P.store pages.new).failed_allocations ≡ (P.store pages.old).failed_allocations }
+    ensures takes { (P.store pages.new).failed_allocations
+        ≡ (P.store pages.old).failed_allocations }
     ensures full { IfErr result IsNotFull }
     ensures looks { (pairs : List Pair) → leaf.now ≡ map item_of pairs → Rises (pair_keys pairs)
         → Shows (P.store pages.old) zero pairs
@@ -70,7 +71,8 @@ pub(crate) fn get_below<P: Pages>(
     ensures grows { Grows (P.store pages.old) (P.store pages.new) }
     ensures same { KeepsWord (P.store pages.new)
         → IsSame (P.store pages.old) (P.store pages.new) }
-    ensures takes { (P.store pages.new).failed_allocations ≡ (P.store pages.old).failed_allocations }
+    ensures takes { (P.store pages.new).failed_allocations
+        ≡ (P.store pages.old).failed_allocations }
     ensures full { IfErr result IsNotFull }
     ensures looks { (d : ℕ) (body : Body d)
         → IsPart (P.store pages.old) page level d low.now (option_map (λ b. b.now) high.entry) body
@@ -117,7 +119,8 @@ pub fn get<P: Pages>(
     ensures grows { Grows (P.store pages.old) (P.store pages.new) }
     ensures same { KeepsWord (P.store pages.new)
         → IsSame (P.store pages.old) (P.store pages.new) }
-    ensures takes { (P.store pages.new).failed_allocations ≡ (P.store pages.old).failed_allocations }
+    ensures takes { (P.store pages.new).failed_allocations
+        ≡ (P.store pages.old).failed_allocations }
     ensures full { IfErr result IsNotFull }
     ensures empty { root ≡ 0 → result ≡ Ok None }
     ensures looks { (d : ℕ) (body : Body d) → IsTree (P.store pages.old) root d body

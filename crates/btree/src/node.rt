@@ -55,7 +55,8 @@ pub(crate) fn push_loose_slot(
     loose_slot: LooseSlot,
 ) -> Result<(), TreeFault>
     ensures ok { OnOk result
-        (map slot_in loose_slots.new.items ≡ map slot_in loose_slots.old.items ++ slot_in loose_slot ∷ []) }
+        (map slot_in loose_slots.new.items ≡ map slot_in loose_slots.old.items
+        ++ slot_in loose_slot ∷ []) }
     ensures long { OnOk result (length loose_slots.new.items ≡ length loose_slots.old.items + 1) }
     ensures err { IfErr result (λ e. e ≡ Memory) }
 {

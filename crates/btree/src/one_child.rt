@@ -142,7 +142,8 @@ fn are_between(branch: &Branch, from: usize, to: usize, loose_slots: &[LooseSlot
     requires within { to ≤ length branch.now }
     ensures some { result ≡ true → 0 < length loose_slots.now }
     ensures first { (s : Slot) (d : Pivot) → result ≡ true → IsUnder
-        (slice_index_or branch.now (from - 1) d).key (slice_index_or (map slot_in loose_slots.now) 0 s).key }
+        (slice_index_or branch.now (from - 1) d).key
+        (slice_index_or (map slot_in loose_slots.now) 0 s).key }
     ensures last { (s : Slot) (d : Pivot) → result ≡ true → to < length branch.now → IsUnder
         (slice_index_or (map slot_in loose_slots.now) (length loose_slots.now - 1) s).key
         (slice_index_or branch.now to d).key }
@@ -170,7 +171,8 @@ fn find_room(branch: &Branch, from: usize, to: usize, low: &[u8], loose_slots: &
     requires some { 0 < from }
     requires order { from ≤ to }
     requires within { to ≤ length branch.now }
-    ensures { (pivots : List Pivot) → map slot_in loose_slots.now ≡ map pivot_slot pivots → result ≡ true
+    ensures { (pivots : List Pivot) → map slot_in loose_slots.now ≡ map pivot_slot pivots
+        → result ≡ true
         → IsBranch (exchanged from to pivots branch.now) }
 {
     if !are_between(branch, from, to, loose_slots) {
@@ -206,7 +208,8 @@ pub(crate) fn go_between(
     requires place { at < length branch.now }
     ensures rank { result ≡ true → (amid.now.rank ≡ rank) × (rank < 4294967295) }
     ensures behind { result ≡ true → 1 < at }
-    ensures sound { (pivots : List Pivot) → map slot_in amid.now.loose_slots.items ≡ map pivot_slot pivots
+    ensures sound { (pivots : List Pivot) → map slot_in amid.now.loose_slots.items
+        ≡ map pivot_slot pivots
         → result ≡ true
         → IsBranch (exchanged (at - 1) (min (at + 2) (length branch.now)) pivots branch.now) }
 {

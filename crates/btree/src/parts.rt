@@ -69,7 +69,8 @@ pub(crate) fn push_cell<'a>(cells: &mut Vec<Cell<'a>>, cell: Cell<'a>) -> Result
 
 fn push_child<'a>(children: &mut Vec<Child<'a>>, child: Child<'a>) -> Result<(), TreeFault>
     ensures ok { OnOk result
-        (map pivot_in children.new.items ≡ map pivot_in children.old.items ++ pivot_in child.entry ∷ []) }
+        (map pivot_in children.new.items ≡ map pivot_in children.old.items ++ pivot_in child.entry
+        ∷ []) }
     ensures err { IfErr result (λ e. e ≡ Memory) }
 {
     match children.push(child) {
@@ -201,7 +202,8 @@ fn write_part<P: Pages>(
 ) -> Result<LooseSlot, TreeFault>
     ensures grows { Grows (P.store pages.old) (P.store pages.new) }
     ensures one { KeepsWord (P.store pages.new) → MatchResult result (λ loose_slot.
-        IsOnePage (P.store pages.old) (P.store pages.new) (map slot_in loose_slots.now) (slot_in loose_slot))
+        IsOnePage (P.store pages.old) (P.store pages.new) (map slot_in loose_slots.now)
+        (slot_in loose_slot))
         (λ e. MakesUpTo (P.store pages.old) (P.store pages.new) 0) }
     ensures writes { (d : ℕ) (body : Body d) → map slot_in loose_slots.now ≡ slots_of d body
         → IsEnough d (map slot_in loose_slots.now) → GoBehind None 0 (map slot_in loose_slots.now)

@@ -16,8 +16,8 @@ ghost use Rattle.btree.specs.Turn.{IsHeld, Turns, model_in};
 use crate::changing::change_below;
 use crate::editing::{Edit, edit_cells};
 use crate::node::{LooseNode, loose_slots_of_cells, page_below};
-use crate::opening::raise;
 use crate::search::branch_child;
+use crate::taking_apart::raise;
 use crate::{Pages, TreeFault};
 use page::PageContent;
 use std::alloc::Global;
@@ -30,7 +30,8 @@ fn levels_below<P: Pages>(pages: &mut P, page: u32, level: u32) -> Result<u32, T
     ensures grows { Grows (P.store pages.old) (P.store pages.new) }
     ensures same { KeepsWord (P.store pages.new)
         → IsSame (P.store pages.old) (P.store pages.new) }
-    ensures takes { (P.store pages.new).failed_allocations ≡ (P.store pages.old).failed_allocations }
+    ensures takes { (P.store pages.new).failed_allocations
+        ≡ (P.store pages.old).failed_allocations }
     ensures full { IfErr result IsNotFull }
     ensures small { IfOk result (λ below. below ≤ 31) }
     ensures levels { (d : ℕ) (low : List ℕ) (high : Option (List ℕ)) (body : Body d)

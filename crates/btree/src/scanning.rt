@@ -101,7 +101,8 @@ pub fn scan<P: Pages>(
     ensures grows { Grows (P.store pages.old) (P.store pages.new) }
     ensures same { KeepsWord (P.store pages.new)
         → IsSame (P.store pages.old) (P.store pages.new) }
-    ensures takes { (P.store pages.new).failed_allocations ≡ (P.store pages.old).failed_allocations }
+    ensures takes { (P.store pages.new).failed_allocations
+        ≡ (P.store pages.old).failed_allocations }
     ensures full { IfErr result IsNotFull }
     ensures empty { root ≡ 0 → MatchResult result (HoldsBatch range.entry.limit []) (λ e. ⊥) }
     ensures scans { (d : ℕ) (body : Body d) → IsTree (P.store pages.old) root d body

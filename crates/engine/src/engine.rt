@@ -334,7 +334,8 @@ impl<D: Disk> Engine<D> {
         ensures disk { disk_history D.history self.new ≡ disk_history D.history self.old }
         ensures running { is_stopped self.new ≡ is_stopped self.old }
         ensures generation { generation self.new ≡ generation self.old }
-        ensures takes { failed_allocations_of D.history self.new ≡ failed_allocations_of D.history self.old }
+        ensures takes { failed_allocations_of D.history self.new
+            ≡ failed_allocations_of D.history self.old }
         ensures reads { failed_reads_of D.history self.new ≡ failed_reads_of D.history self.old }
         ensures world { world self.new ≡ after_undo (turn_start self.old) (world self.old) }
         ensures turn_start { turn_start self.new ≡ (world self.new).collections }
@@ -355,7 +356,8 @@ impl<D: Disk> Engine<D> {
         ensures disk { disk_history D.history self.new ≡ disk_history D.history self.old }
         ensures running { is_stopped self.new ≡ is_stopped self.old }
         ensures generation { generation self.new ≡ generation self.old }
-        ensures takes { failed_allocations_of D.history self.new ≡ failed_allocations_of D.history self.old }
+        ensures takes { failed_allocations_of D.history self.new
+            ≡ failed_allocations_of D.history self.old }
         ensures reads { failed_reads_of D.history self.new ≡ failed_reads_of D.history self.old }
         ensures world { world self.new ≡ forget (world self.old) connection }
         ensures turn_start { turn_start self.new ≡ turn_start self.old }

@@ -19,7 +19,10 @@ pub(crate) struct Troubles {
 /// Those of a file so far.
 pub(crate) fn troubles_of<D: Disk>(file: &Collections<D>) -> Troubles
     ensures { let pages = pages_of D.history file.now in
-        result ≡ record { failed_reads = pages.failed_reads; failed_allocations = pages.failed_allocations } }
+        result ≡ record {
+          failed_reads = pages.failed_reads;
+          failed_allocations = pages.failed_allocations;
+        } }
 {
     Troubles {
         failed_reads: file.failed_reads(),

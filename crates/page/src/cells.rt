@@ -145,7 +145,8 @@ impl Child<'_> {
     /// Appends the bytes of a child behind the first.
     pub(crate) fn append_to(&self, bytes: &mut Vec<u8>) -> Result<(), AllocError>
         requires { IsPivot (pivot_of self.now) }
-        ensures { OnOk result (bytes.new.items ≡ bytes.old.items ++ pivot_bytes (pivot_of self.now)) }
+        ensures { OnOk result (bytes.new.items ≡ bytes.old.items
+            ++ pivot_bytes (pivot_of self.now)) }
     {
         let mut len = [0; 2];
         LittleEndian::write_u16(&mut len, self.key.len() as u16);
@@ -218,7 +219,8 @@ pub(crate) fn append_children(
     ensures bytes { OnOk result
         (bytes.new.items ≡ bytes.old.items ++ flat_map pivot_bytes (map pivot_of children.now)) }
     ensures places { OnOk result (places.new.items
-        ≡ places.old.items ++ starts pivot_size (length bytes.old.items) (map pivot_of children.now)) }
+        ≡ places.old.items
+        ++ starts pivot_size (length bytes.old.items) (map pivot_of children.now)) }
 {
     for child in children {
         note_place(places, bytes.len())?;

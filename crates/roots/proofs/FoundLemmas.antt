@@ -33,7 +33,7 @@ use Rattle.page.specs.History.{History, now}
 use Rattle.roots.specs.declared.opening.OpenFault.{OpenFault}
 use Rattle.roots.specs.declared.opening.OpenFault.TheVariants as faults
 use Rattle.roots.specs.declared.root.Root.{Root}
-use Rattle.roots.specs.declared.walk.Reached.{Reached}
+use Rattle.roots.specs.declared.reachable_pages.Reached.{Reached}
 use Rattle.roots.specs.Found.{HasFoundChain, HasFoundFan, HasFoundPairs, HasFoundPart, HasFoundValue, ReachesDepth, bound_of}
 use Rattle.roots.specs.Image.{content_in, model_at, store_of}
 use Rattle.roots.specs.Walk.{CanReach, IsMarked, pages_in, pages_so_far}

@@ -15,7 +15,7 @@ use Rattle.roots.specs.declared.opening.OpenFault.{OpenFault}
 use Rattle.roots.specs.declared.opening.OpenFault.TheVariants as faults
 use Rattle.roots.specs.declared.root.Root.{Root}
 use Rattle.roots.specs.declared.store.Store.{Store}
-use Rattle.roots.specs.declared.walk.Reached.{Reached}
+use Rattle.roots.specs.declared.reachable_pages.Reached.{Reached}
 use Rattle.roots.specs.Found.{HasFoundPart, ReachesDepth}
 use Rattle.roots.specs.Image.{HasList, HoldsMap, HoldsTree, OpensAs, model_at}
 use Rattle.roots.specs.Listed.{OnlyReads}

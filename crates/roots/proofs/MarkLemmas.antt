@@ -9,7 +9,7 @@ use Rattle.std.proofs.Common.{replicate}
 use Rattle.std.proofs.lemmas.List.{length-replicate}
 use Rattle.btree.specs.Keys.{times}
 use Rattle.btree.specs.Reach.{AreOnce}
-use Rattle.roots.specs.declared.walk.Reached.{Reached}
+use Rattle.roots.specs.declared.reachable_pages.Reached.{Reached}
 use Rattle.roots.specs.Walk.{IsMarked, pages_so_far}
 
 pub times_append : (n : ℕ) (xs ys : List ℕ) → times n (xs ++ ys) ≡ times n xs + times n ys

@@ -21,7 +21,7 @@ use Rattle.btree.specs.Tree.{Body, HasLinks, Shows, Subtree, pivot_of, content_o
 use Rattle.roots.specs.declared.opening.OpenFault.{OpenFault}
 use Rattle.roots.specs.declared.opening.OpenFault.TheVariants as faults
 use Rattle.roots.specs.declared.root.Root.{Root}
-use Rattle.roots.specs.declared.walk.Reached.{Reached}
+use Rattle.roots.specs.declared.reachable_pages.Reached.{Reached}
 use Rattle.roots.specs.Image.{content_in, model_at, store_of}
 use Rattle.roots.specs.Walk.{CanReach, HasCause, IsMarked, KeepsMarks, Looks, Reaches, pages_in, pages_so_far}
 use Rattle.roots.proofs.MarkLemmas.{times_append}

@@ -23,7 +23,7 @@ use Rattle.roots.specs.declared.opening.OpenFault.{OpenFault}
 use Rattle.roots.specs.declared.opening.OpenFault.TheVariants as faults
 use Rattle.roots.specs.declared.root.Root.{Root}
 use Rattle.roots.specs.declared.store.Store.{Store}
-use Rattle.roots.specs.declared.walk.Reached.{Reached}
+use Rattle.roots.specs.declared.reachable_pages.Reached.{Reached}
 
 -- a failed read is counted; the other faults are that memory ran out, and that the pages are no
 -- tree

@@ -5,10 +5,10 @@ mod counting;
 pub mod laws;
 mod listing;
 mod opening;
+mod reachable_pages;
 mod replace;
 mod root;
 mod store;
-mod walk;
 
 pub use counting::PageCounts;
 pub use listing::list_models;

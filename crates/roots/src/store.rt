@@ -20,9 +20,9 @@ ghost use Rattle.roots.specs.Turn.{AreWritten, LieBehind, end_behind, numbers_of
 use crate::counting::{PageCounts, counts_of};
 use crate::listing::{checked_list, read_fault, read_named};
 use crate::opening::{OpenFault, read_root};
+use crate::reachable_pages::{is_of_tree, reached_pages, read_model};
 use crate::replace::replace;
 use crate::root::{MAX_PAGES, Root};
-use crate::walk::{is_of_tree, reached_pages, read_model};
 use freelist::FreePages;
 use page::{DeviceFault, Disk, PageImage, SharedPage, write_page};
 use std::alloc::Global;
