@@ -18,6 +18,6 @@ mod walk;
 pub use collections::Collections;
 pub use folding::DocumentFold;
 pub use index_texts::{FirstTexts, NextTexts};
-pub use lookups::Name;
+pub use lookups::{MOST_COLLECTIONS, Name};
 pub use mark::Mark;
 pub use walk::{Walk, goes_on_walking};

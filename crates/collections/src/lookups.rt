@@ -27,7 +27,7 @@ use path::Refusal;
 use std::alloc::Global;
 
 /// The most collections of a database.
-const MOST_COLLECTIONS: usize = 1000;
+pub const MOST_COLLECTIONS: usize = 1_000;
 
 /// A collection by its name.
 #[derive(Drop)]

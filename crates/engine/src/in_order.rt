@@ -22,14 +22,11 @@ use path::Refusal;
 use pinned_cursors::{FirstAsked, InOrder, give_first_in_order};
 use queries::{IndexOrder, order_asked};
 use replies::ConnId;
-use walks::OrderedWalk;
+use walks::{MOST_READ, OrderedWalk};
 
 /// So many times entries are read for a first batch where the filter passes over some: where these don't suffice, all that
 /// matches is sorted.
 const TIMES: usize = 4;
-
-/// So many entries are read at a time at most.
-const MOST_READ: usize = 1_024;
 
 /// No batch has more documents.
 const MOST_GIVEN: usize = 200_000;

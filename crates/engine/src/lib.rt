@@ -38,10 +38,8 @@ mod writing;
 pub use check_fault::CheckFault;
 pub use checking::Counts;
 pub use engine::{Engine, Reply};
+pub use entries::MOST_INDEXES;
 pub use opening::MOST_COLLECTIONS;
 pub use path::Refusal;
 pub use refusal::body_refusal;
 pub use replies::{Answer, CONNECTIONS, ConnId, full_bytes, out_of_memory_bytes, refusal_document};
-
-/// The most indexes of a collection beside that on `_id`.
-pub const MOST_INDEXES: usize = 16;

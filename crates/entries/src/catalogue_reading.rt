@@ -75,7 +75,7 @@ fn indexes_told(alloc: Global, document: &Document) -> Result<Option<Vec<IndexSp
 }
 
 /// The most indexes of a collection, beside that on `_id`.
-const MOST_INDEXES: usize = 16;
+pub const MOST_INDEXES: usize = 16;
 
 /// What the catalogue says of a collection: its number and its indexes.
 #[derive(Drop)]

@@ -6,9 +6,7 @@ mod ghost_state;
 mod judging;
 mod loading;
 
+pub use collections::MOST_COLLECTIONS;
 pub use ghost_state::GhostState;
 pub use judging::Named;
 pub use loading::{Loading, load_file, open_file};
-
-/// The most collections.
-pub const MOST_COLLECTIONS: usize = 1_000;

@@ -27,7 +27,7 @@ use std::alloc::Global;
 use trusted_disk::TrustedDisk;
 
 /// How many entries are read at a time.
-const BATCH: usize = 64;
+const ENTRIES_AT_ONCE: usize = 64;
 
 /// What was read of a file so far, beside what is told: the catalogue, how many documents there were, how
 /// many keys these have, and how many entries of indexes there were.
@@ -235,7 +235,7 @@ fn load_batch<D: Disk>(
         (progress_of loading.old told.old.value.now)
         (progress_of loading.new told.new.value.now) file.old file.new }
 {
-    let batch = match file.next_entries(from, BATCH) {
+    let batch = match file.next_entries(from, ENTRIES_AT_ONCE) {
         Ok(batch) => batch,
         Err(refusal) => return Err(reading_fault(refusal)),
     };

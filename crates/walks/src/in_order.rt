@@ -22,7 +22,7 @@ use projection::Projection;
 use std::alloc::Global;
 
 /// So many entries are read at a time at most.
-const MOST_READ: usize = 1_024;
+pub const MOST_READ: usize = 1_024;
 
 /// A walk through the entries of an index that has one for each document: which of the documents it gives, and from which entry it goes
 /// on.

@@ -17,7 +17,7 @@ pub use batches::{
 pub use by_ids::{look_up, selected_by_ids, selected_one_by_one, spelled_within};
 pub use dense::fold_dense;
 pub use id_range::fold_asked;
-pub use in_order::{OrderedWalk, batch_in_order};
+pub use in_order::{MOST_READ, OrderedWalk, batch_in_order};
 pub use listed::{Listed, batch_of_listed, listed_texts};
 pub use scanning::{BATCH, scanned};
 pub use within::{are_within, built_within};
