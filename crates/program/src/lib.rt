@@ -1,8 +1,8 @@
 //! What `docpage` does of what its words ask for, over a server in its own process and any reader and writers, and over a port.
 //!
-//! `tasks` runs a task that needs no port, `ports` serves one; `exec` answers frames of its input, `people` documents and commands as Extended JSON, which `terminal`
+//! `opening` opens the file, `tasks` runs a task, `ports` serves one that has a port; `exec` answers frames of its input, `people` documents and commands as Extended JSON, which `terminal`
 //! watches; `check` counts what a file holds, `dump` writes documents as their bytes. `in_process` is a server as people see it. Crate
-//! `program_words` reads the words, and crate `docpage` opens the file and serves drivers.
+//! `program_words` reads the words, and crate `docpage` hands them on and serves drivers.
 #![tactic(auto)]
 
 mod check;
@@ -10,6 +10,7 @@ mod dump;
 mod exec;
 mod fault;
 mod in_process;
+mod opening;
 mod people;
 mod ports;
 mod tasks;
@@ -17,6 +18,7 @@ mod terminal;
 
 pub use fault::ProgramFault;
 pub use in_process::Server;
-pub use ports::{bind, listen, serve};
-pub use tasks::run_local;
+pub use opening::open_server;
+pub use ports::bind;
+pub use tasks::run_task;
 pub use terminal::Terminal;

@@ -11,7 +11,7 @@ use std::net::{Ipv4Addr, Net, SocketAddr, TcpListener, TcpStream};
 use std::rt::Clock;
 
 /// Serves connections of a port for some turns.
-pub fn serve<R: AllocGlobal + Net<Listener = TcpListener, Stream = TcpStream>, D: Disk>(
+pub(crate) fn serve<R: AllocGlobal + Net<Listener = TcpListener, Stream = TcpStream>, D: Disk>(
     rt: &R,
     core: &mut Core<D>,
     served: &Served,
@@ -25,7 +25,10 @@ pub fn serve<R: AllocGlobal + Net<Listener = TcpListener, Stream = TcpStream>, D
 }
 
 /// Serves all connections of a port.
-pub fn listen<R: AllocGlobal + Clock + Net<Listener = TcpListener, Stream = TcpStream>, D: Disk>(
+pub(crate) fn listen<
+    R: AllocGlobal + Clock + Net<Listener = TcpListener, Stream = TcpStream>,
+    D: Disk,
+>(
     rt: &R,
     core: &mut Core<D>,
     listened: &Listened,
