@@ -11,7 +11,7 @@ use Rattle.path.specs.declared.refusal.Refusal.{Refusal}
 use Rattle.path.specs.declared.refusal.Refusal.TheVariants as refusals
 use Rattle.aggregate.specs.Gathering.{HasGathered, after_groups, unless_refused, with_more}
 use Rattle.aggregate_model.specs.Group.{Grouping, grouped, id_value}
-use Rattle.aggregate.specs.GroupView.{grouping_of}
+use Rattle.pipelines.specs.GroupView.{grouping_of}
 use Rattle.aggregate.specs.Groups.{entries_of, IsIndexed}
 use Rattle.aggregate_model.specs.Limits.{first_fault, if_faultless, within_limits}
 use Rattle.aggregate_model.specs.Pipeline.{run}
@@ -19,7 +19,7 @@ use Rattle.aggregate_model.specs.Stage.{Stage, group_stage}
 use Rattle.aggregate.specs.Table.{Entry, entry_documents, grouped_from, put_document}
 use Rattle.aggregate_model.specs.Taking.{behind_match, takes}
 use Rattle.aggregate_model.specs.TakingLaws.{stays_within}
-use Rattle.aggregate.specs.View.{stage_of, pipeline_of}
+use Rattle.pipelines.specs.View.{stage_of, pipeline_of}
 use Rattle.aggregate.specs.declared.gathering.Gathering.{Gathering}
 use Rattle.aggregate.proofs.GroupLemmas.{grouped_is}
 use Rattle.aggregate.proofs.TakingLemmas.{groups_taken}

@@ -1,5 +1,3 @@
-pub mod NameLemmas
-pub mod ReadingLemmas
 pub mod PathLemmas
 pub mod EachLemmas
 pub mod SplitLemmas

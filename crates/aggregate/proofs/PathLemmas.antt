@@ -1,33 +1,22 @@
--- Values of paths: what a `$` stands in front of, what a field holds, and that what is made nests no deeper.
-use Rattle.std.proofs.Common.{◌≡◌, ℕ, suc, ◌+◌, ◌-◌, ◌<◌, ◌≤◌, max, Bool, true, false, List, [], ◌∷◌, length, take, drop, get_or, Option, Some, None, Bor, refl}
-use Rattle.std.proofs.Common.{sym, ap, subst, ◌∙◌, arith}
-use Rattle.std.specs.Prelude.{◌≢◌, ◌==◌, if◌then◌else◌, option_map, MatchOption}
+-- Values of paths: what a field and an array hold, and that what is made nests no deeper.
+use Rattle.std.proofs.Common.{◌≡◌, ℕ, zero, suc, ◌+◌, ◌-◌, ◌<◌, ◌≤◌, max, Bool, true, false, List, [], ◌∷◌, length, take, drop, get_or, Option, Some, None}
+use Rattle.std.proofs.Common.{Result, Ok, Err, refl, sym, ap, subst, ◌∙◌, arith}
+use Rattle.std.specs.Prelude.{if◌then◌else◌}
 use Rattle.std.specs.Option.{option_and_then}
+use Rattle.std.specs.Result.{IfOk}
 use Rattle.std.specs.Str.{bytes_eq}
-use Rattle.std.proofs.lemmas.Bool.{eqb-true}
 use Rattle.std.proofs.lemmas.List.{drop_all, take_all}
-use Rattle.bson.specs.Tree.{Tree, scalar, document, array, Pairs, no_pairs, pair, Items, no_items, item, count, count_pairs, append_items}
+use Rattle.bson.specs.Tree.{Tree, scalar, document, array, Pairs, no_pairs, pair, Items, no_items, item, count, count_pairs, count_items, append_items}
 use Rattle.bson.specs.Lawful.{levels, pairs_levels, items_levels, IsTree, IsPairs, IsItems, IsArray}
 use Rattle.bson.specs.Lookup.{lookup}
 use Rattle.bson.specs.View.{tree, items_of}
 use Rattle.bson.specs.EditPlaces.{append_items-none, append_items-one}
 use Rattle.bson.specs.declared.value.Value.{Value}
 use Rattle.projection.specs.Projection.{add_item}
-use Rattle.aggregate_model.specs.Operands.{dollar_path}
 use Rattle.aggregate_model.specs.PathValue.{by_field, each_by_field, path_value}
-use Rattle.aggregate.proofs.ReadingLemmas.{drop_step}
+use Rattle.pipelines.proofs.ReadingLemmas.{drop_step}
 
-pub dollar : (bs : List ℕ) (r : Option (Bor (List ℕ))) → MatchOption r ((rest : List ℕ) → bs ≢ 36 ∷ rest) (λ x. bs ≡ 36 ∷ x.now)
-    → option_map (λ t. t.now) r ≡ dollar_path bs
-dollar [] None h = refl
-dollar (b ∷ bs) None h = by (b == 36) refl
-  where
-    by : (t : Bool) → (b == 36) ≡ t → ◌≡◌ {A = Option (List ℕ)} None (if t then Some bs else None)
-    by false e = refl
-    by true e = absurd (h bs (ap (λ (x : ℕ). x ∷ bs) (eqb-true b 36 e)))
-dollar bs (Some x) h = sym (ap dollar_path h)
-
--- ---- what a field holds
+-- ---- what a field and an array hold
 
 pub count-lookup : (ps : Pairs) (name : List ℕ) (t : Tree) → lookup ps name ≡ Some t → count t ≤ count_pairs ps
 count-lookup no_pairs name t e = absurd cc
@@ -37,6 +26,15 @@ count-lookup (pair other u ps) name t e = by (bytes_eq name other) e (count-look
         → count t ≤ count u + count_pairs ps
     by true e later = let same : u ≡ t = cc in omega (arith, ap count same)
     by false e later = omega (arith, later e)
+
+pub item_count : (vs : List Value) (i : ℕ) (v : Value) → i < length vs → v ≡ get_or vs i v → count (tree v) ≤ count_items (items_of vs)
+item_count [] i v lt is = absurd (omega arith)
+item_count (w ∷ ws) zero v lt is = omega (arith, ap (λ (x : Value). count (tree x)) is)
+item_count (w ∷ ws) (suc i) v lt is = omega (arith, item_count ws i v (omega arith) is)
+
+pub if_ok_map : {A E : Type 0} (r : Result A E) (P Q : A → Type 0) → ((a : A) → P a → Q a) → IfOk r P → IfOk r Q
+if_ok_map (Ok a) P Q f h = f a h
+if_ok_map (Err e) P Q f h = h
 
 abbrev pub Kept : Tree → Tree → Type 0
 Kept t u = IsTree u × (levels u ≤ levels t)

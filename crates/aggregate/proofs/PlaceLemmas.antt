@@ -12,11 +12,12 @@ use Rattle.indexmap.specs.IndexMap.{get}
 use Rattle.value_order.specs.KeyText.{tree_text}
 use Rattle.aggregate_model.specs.Accumulators.{State}
 use Rattle.aggregate_model.specs.Group.{GroupField, same}
-use Rattle.aggregate.specs.GroupView.{state_of, group_field_of}
+use Rattle.aggregate.specs.States.{state_of}
+use Rattle.pipelines.specs.GroupView.{group_field_of}
 use Rattle.aggregate.specs.Groups.{entry_of, entries_of, same_text, IsIndexed}
 use Rattle.aggregate.specs.Table.{Entry, has, Apart, starts, taken, put_document}
 use Rattle.aggregate.specs.declared.accumulators.State.{State as Has}
-use Rattle.aggregate.specs.declared.grouping.GroupField.{GroupField as MadeField}
+use Rattle.pipelines.specs.declared.grouping.GroupField.{GroupField as MadeField}
 use Rattle.aggregate.specs.declared.groups.Group.{Group}
 use Rattle.aggregate.specs.declared.groups.Groups.{Groups}
 use Rattle.aggregate.proofs.GroupLemmas.{same_laws}

@@ -6,14 +6,14 @@ use Rattle.bson.specs.Tree.{Pairs}
 use Rattle.outcome.specs.Outcome.{◌>>=◌}
 use Rattle.path.specs.declared.refusal.Refusal.{Refusal}
 use Rattle.aggregate_model.specs.Group.{Grouping, grouped}
-use Rattle.aggregate.specs.GroupView.{grouping_of}
+use Rattle.pipelines.specs.GroupView.{grouping_of}
 use Rattle.aggregate.specs.Groups.{entries_of, IsIndexed}
 use Rattle.aggregate_model.specs.Stage.{Stage, group_stage}
 use Rattle.aggregate_model.specs.Limits.{within_limits}
 use Rattle.aggregate_model.specs.Pipeline.{run}
 use Rattle.aggregate.specs.Table.{Entry, entry_documents, grouped_from}
 use Rattle.aggregate_model.specs.Taking.{takes, behind_match}
-use Rattle.aggregate.specs.View.{stage_of, pipeline_of}
+use Rattle.pipelines.specs.View.{stage_of, pipeline_of}
 use Rattle.aggregate.specs.declared.gathering.Gathering.{Gathering}
 
 -- the first document without an `_id` decides

@@ -8,7 +8,7 @@ use Rattle.bson.specs.View.{tree}
 use Rattle.indexmap.specs.IndexMap.{get}
 use Rattle.value_order.specs.KeyText.{tree_text}
 use Rattle.aggregate_model.specs.Group.{same}
-use Rattle.aggregate.specs.GroupView.{state_of}
+use Rattle.aggregate.specs.States.{state_of}
 use Rattle.aggregate.specs.Table.{Entry, has, Apart}
 use Rattle.aggregate.specs.declared.groups.Group.{Group}
 use Rattle.aggregate.specs.declared.groups.Groups.{Groups}

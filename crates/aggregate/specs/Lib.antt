@@ -1,6 +1,5 @@
 pub mod Found
-pub mod View
-pub mod GroupView
+pub mod States
 pub mod Table
 pub mod Groups
 pub mod Gathering

@@ -1,7 +1,7 @@
-//! The table of the accumulators.
+//! The table of the accumulators: what they make of values.
 //!
-//! One more accumulator is one more entry here (its name, where it starts, what one value more makes of it, what it gives in
-//! the end) and a `State`.
+//! One more accumulator is one more entry here (where it starts, what one value more makes of it, what it gives in the end),
+//! a `State`, and its name in crate `pipelines`.
 
 ghost use Rattle.std.specs.Prelude.{◌≡◌, ◌+ℤ◌, IfOk, OnOk, Ok, Some, if◌then◌else◌, option_map};
 ghost use Rattle.bson.specs.Tree.{array};
@@ -10,11 +10,11 @@ ghost use Rattle.path.specs.Edits.{within};
 ghost use Rattle.outcome.specs.Outcome.{Gives};
 ghost use Rattle.filter.specs.Matches.{is_null};
 ghost use Rattle.value_order.specs.Order.{compare};
-ghost use Rattle.aggregate_model.specs.Accumulators.{accumulator_named, start, is_below, lesser, greater, best_with, first_with};
+ghost use Rattle.aggregate_model.specs.Accumulators.{start, is_below, lesser, greater, best_with, first_with};
 ghost use Rattle.aggregate_model.specs.Accumulators.{pushed_with, take, outcome};
 ghost use Rattle.aggregate_model.specs.Expression.{or_null};
 ghost use Rattle.aggregate.specs.Found.{found_of};
-ghost use Rattle.aggregate.specs.GroupView.{state_of, total_of};
+ghost use Rattle.aggregate.specs.States.{state_of, total_of};
 
 use crate::numbers::total_value;
 use crate::path_value::Found;
@@ -25,21 +25,6 @@ use std::alloc::{AllocError, Global};
 use std::cmp::Ordering;
 use std::mem;
 use value_order::compare;
-
-/// The accumulator that is called so.
-pub(crate) fn accumulator_named(name: &str) -> Option<Accumulator>
-    ensures { result ≡ accumulator_named name.now }
-{
-    match name {
-        _ if name == "$sum" => Some(Accumulator::Sum),
-        _ if name == "$min" => Some(Accumulator::Least),
-        _ if name == "$max" => Some(Accumulator::Greatest),
-        _ if name == "$first" => Some(Accumulator::First),
-        _ if name == "$last" => Some(Accumulator::Last),
-        _ if name == "$push" => Some(Accumulator::Push),
-        _ => None,
-    }
-}
 
 /// The sum of the numbers so far, and whether all were int32.
 #[derive(Drop)]

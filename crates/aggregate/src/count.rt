@@ -5,10 +5,10 @@ ghost use Rattle.outcome.specs.Outcome.{Gives};
 ghost use Rattle.aggregate_model.specs.Count.{number_document, counted};
 
 use crate::fields::set_field;
-use crate::names::FieldName;
 use crate::numbers::total_value;
 use bson::Document;
 use path::Refusal;
+use pipelines::FieldName;
 use std::alloc::Global;
 
 /// The document of one field that has this number.

@@ -4,22 +4,22 @@ ghost use Rattle.std.specs.Prelude.{◌≡◌, true, None, [], ◌∷◌, ◌++�
 ghost use Rattle.bson.specs.Tree.{Pairs};
 ghost use Rattle.outcome.specs.Outcome.{Gives};
 ghost use Rattle.aggregate.specs.Gathering.{HasGathered, after_groups};
-ghost use Rattle.aggregate.specs.GroupView.{grouping_of};
+ghost use Rattle.pipelines.specs.GroupView.{grouping_of};
 ghost use Rattle.aggregate.specs.Groups.{entries_of};
 ghost use Rattle.aggregate_model.specs.Limits.{first_fault};
 ghost use Rattle.aggregate_model.specs.Pipeline.{run};
 ghost use Rattle.aggregate_model.specs.Stage.{Stage as Step};
 ghost use Rattle.aggregate_model.specs.Taking.{behind_match, groups_first};
-ghost use Rattle.aggregate.specs.View.{pipeline_of, stage_of};
+ghost use Rattle.pipelines.specs.View.{pipeline_of, stage_of};
 
-use crate::grouping::Grouping;
+use crate::group_ids::id_value;
 use crate::groups::Groups;
 use crate::limits::within_limits;
-use crate::pipeline::{Pipeline, run_stages};
-use crate::stage::Stage;
-use crate::taking::behind_match;
+use crate::running::run_stages;
+use crate::taking::{behind_match, takes_raw};
 use bson::{Document, NoMemory, RawDoc};
 use path::Refusal;
+use pipelines::{Grouping, Pipeline, Stage};
 use std::alloc::{AllocError, Global};
 
 /// A pipeline that groups its documents, and the groups of those that it was given so far. It holds none of them. One
@@ -48,26 +48,24 @@ fn after_groups(
     run_stages(alloc, behind, within_limits(documents, limit)?, limit)
 }
 
-impl Pipeline {
-    /// The groups of no document yet, where it groups them before all else but a `$match`. `None` where it doesn't.
-    pub fn gathering(&self) -> Option<Gathering<'_>>
-        ensures begun { IfSome result (λ g. HasGathered (pipeline_of self.now) [] g) }
-        ensures groups { is_some result ≡ groups_first (behind_match (pipeline_of self.now)) }
+impl Gathering<'_> {
+    /// The groups of no document yet, where a pipeline groups them before all else but a `$match`. `None` where it doesn't.
+    pub fn of(pipeline: &Pipeline) -> Option<Gathering<'_>>
+        ensures begun { IfSome result (λ g. HasGathered (pipeline_of pipeline.now) [] g) }
+        ensures groups { is_some result ≡ groups_first (behind_match (pipeline_of pipeline.now)) }
     {
-        match behind_match(&self.stages).split_first() {
+        match behind_match(&pipeline.stages).split_first() {
             Some((Stage::Group(grouping), behind)) => Some(Gathering {
-                pipeline: self,
+                pipeline,
                 grouping,
                 behind,
-                groups: Groups::new(self.alloc),
+                groups: Groups::new(pipeline.alloc),
                 refused: None,
             }),
             _ => None,
         }
     }
-}
 
-impl Gathering<'_> {
     /// Whether it is refused, so that no other document changes anything.
     pub fn is_refused(&self) -> bool
         ensures { result ≡ true → (stages : List Step) (all more : List Pairs)
@@ -81,10 +79,10 @@ impl Gathering<'_> {
         ensures { (stages : List Step) (all : List Pairs) → HasGathered stages all self.old
             → OnOk result (HasGathered stages (all ++ document.now ∷ []) self.new) }
     {
-        if self.refused.is_some() || !self.pipeline.takes_raw(alloc, document)? {
+        if self.refused.is_some() || !takes_raw(alloc, self.pipeline, document)? {
             return Ok(());
         }
-        match self.grouping.id.value(alloc, document) {
+        match id_value(alloc, &self.grouping.id, document) {
             Ok(id) => self.groups.put(alloc, &self.grouping.fields, id, document),
             Err(Refusal::OutOfMemory) => Err(AllocError),
             Err(refusal) => {
@@ -96,7 +94,7 @@ impl Gathering<'_> {
 
     /// What the pipeline makes of the documents that it was given, where none of them is over a limit.
     ///
-    /// Refused as `Pipeline::run` is.
+    /// Refused as `run` is.
     pub fn into_documents(self, alloc: Global, limit: u32) -> Result<Vec<Document>, Refusal>
         ensures runs { (stages : List Step) (all : List Pairs)
             → HasGathered stages all self.entry → first_fault limit all ≡ None

@@ -8,17 +8,21 @@ ghost use Rattle.bson.specs.View.{tree};
 ghost use Rattle.outcome.specs.Outcome.{Gives};
 ghost use Rattle.value_order.specs.KeyText.{tree_text};
 ghost use Rattle.aggregate_model.specs.Group.{same, grouped};
-ghost use Rattle.aggregate.specs.GroupView.{state_of, group_field_of, grouping_of, id_value_of};
+ghost use Rattle.aggregate.specs.Found.{id_value_of};
+ghost use Rattle.aggregate.specs.States.{state_of};
+ghost use Rattle.pipelines.specs.GroupView.{group_field_of, grouping_of};
 ghost use Rattle.aggregate.specs.Groups.{entry_of, entries_of, IsIndexed, IsPlace};
 ghost use Rattle.aggregate.specs.Table.{has, starts, taken, put_document, with_outcomes, entry_document, entry_documents, grouped_from};
 
 use crate::accumulators::State;
+use crate::expression::expression_value;
 use crate::fields::set_field;
-use crate::grouping::{GroupField, Grouping, IdValue};
+use crate::group_ids::{IdValue, id_value};
 use crate::path_source::PathSource;
 use bson::{Document, NoMemory, Value};
 use indexmap::IndexMap;
 use path::Refusal;
+use pipelines::{GroupField, Grouping};
 use std::alloc::Global;
 use std::cmp::Ordering;
 use std::mem;
@@ -95,7 +99,7 @@ fn take_all<S: PathSource>(
         if states.len() <= at {
             return Ok(());
         }
-        let found = field.expression.value(alloc, document)?;
+        let found = expression_value(alloc, &field.expression, document)?;
         states[at].take(found)?;
     }
     Ok(())
@@ -251,7 +255,7 @@ fn grouped_from(grouping: &Grouping, documents: &[Document]) -> Result<Vec<Docum
     let alloc = grouping.alloc;
     let mut groups = Groups::new(alloc);
     'documents: for document in documents {
-        let id = grouping.id.value(alloc, document)?;
+        let id = id_value(alloc, &grouping.id, document)?;
         groups.put(alloc, &grouping.fields, id, document)?;
     }
     groups.into_documents(alloc, &grouping.fields)

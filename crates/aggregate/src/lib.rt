@@ -1,28 +1,24 @@
-//! Aggregation pipelines: reading one, and what it makes of documents (MongoDB manual, "Aggregation Stages").
+//! What aggregation pipelines make of documents (MongoDB manual, "Aggregation Stages"), and which documents they need.
 //!
-//! `stages` is the table of the stages; each has a file that says what it does. `operands` and `names` read what stages
-//! are given, `limits` judges what they give, `pipeline` reads a pipeline and runs it.
+//! `running` runs a pipeline, `stages` is the table of what its stages do, each in a file of its own; `limits` judges what
+//! they give. `taking` says which documents are needed at all, `gathering` groups those that come one after the other.
 #![tactic(auto)]
 
 mod accumulators;
-mod copying;
 mod count;
 mod expression;
 mod fields;
 mod gathering;
-mod grouping;
+mod group_ids;
 mod groups;
 pub mod laws;
 mod limits;
 mod matching;
-mod names;
 mod numbers;
-mod operands;
 mod path_source;
 mod path_value;
-mod pipeline;
 mod projecting;
-mod stage;
+mod running;
 mod stages;
 mod taking;
 mod unwinding;
@@ -30,5 +26,5 @@ mod windows;
 
 pub use gathering::Gathering;
 pub use limits::RESULT_LEVELS;
-pub use pipeline::{MOST_STAGES, Pipeline};
-pub use taking::FirstSorted;
+pub use running::run;
+pub use taking::{FirstSorted, first_sorted, leading_match, most_needed, still_needed, takes_raw};

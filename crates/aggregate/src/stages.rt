@@ -1,92 +1,23 @@
-//! The table of the stages.
+//! The table of the stages: what each does.
 //!
-//! One more stage is one more entry here (its name, how its operand is read, what it does), a `Stage`, and a file that
-//! does it.
+//! One more stage is one more entry here and a file that does it; its name and how its operand is read stand in crate
+//! `pipelines`.
 
 ghost use Rattle.std.specs.Prelude.{◌≡◌};
-ghost use Rattle.bson.specs.View.{tree};
 ghost use Rattle.outcome.specs.Outcome.{Gives};
-ghost use Rattle.aggregate_model.specs.Stages.{stage_named, read_operand, apply_stage};
-ghost use Rattle.aggregate.specs.View.{stage_of};
-ghost use Rattle.aggregate_model.specs.declared.stages.StageName.TheVariants as names;
+ghost use Rattle.aggregate_model.specs.Stages.{apply_stage};
+ghost use Rattle.pipelines.specs.View.{stage_of};
 
 use crate::count::counted;
-use crate::grouping::Grouping;
 use crate::groups::grouped;
 use crate::matching::matching;
-use crate::names::FieldName;
-use crate::operands::{document_in, dollar_path_in, number_in, text_in};
-use crate::projecting::{Projecting, all_projected};
-use crate::stage::Stage;
+use crate::projecting::all_projected;
 use crate::unwinding::unwound;
 use crate::windows::{limited, skipped};
-use aggregate_model::StageName;
-use bson::{Document, Value};
-use filter::Filter;
+use bson::Document;
 use path::Refusal;
-use sort::Sort;
+use pipelines::Stage;
 use std::alloc::Global;
-
-/// The stage that is called so.
-pub(crate) fn stage_named(name: &str) -> Option<StageName>
-    ensures { result ≡ stage_named name.now }
-{
-    match name {
-        _ if name == "$match" => Some(StageName::Match),
-        _ if name == "$project" => Some(StageName::Project),
-        _ if name == "$unwind" => Some(StageName::Unwind),
-        _ if name == "$group" => Some(StageName::Group),
-        _ if name == "$sort" => Some(StageName::Sort),
-        _ if name == "$skip" => Some(StageName::Skip),
-        _ if name == "$limit" => Some(StageName::Limit),
-        _ if name == "$count" => Some(StageName::Count),
-        _ => None,
-    }
-}
-
-fn read_match(alloc: Global, value: &Value) -> Result<Stage, Refusal>
-    ensures { Gives Refusal.OutOfMemory stage_of result
-        (read_operand names.Match (tree value.now)) }
-{
-    Ok(Stage::Match(Filter::read(alloc, document_in(value)?)?))
-}
-
-fn read_project(alloc: Global, value: &Value) -> Result<Stage, Refusal>
-    ensures { Gives Refusal.OutOfMemory stage_of result
-        (read_operand names.Project (tree value.now)) }
-{
-    Ok(Stage::Project(Projecting::read(alloc, document_in(value)?)?))
-}
-
-fn read_group(alloc: Global, value: &Value) -> Result<Stage, Refusal>
-    ensures { Gives Refusal.OutOfMemory stage_of result
-        (read_operand names.Group (tree value.now)) }
-{
-    Ok(Stage::Group(Grouping::read(alloc, document_in(value)?)?))
-}
-
-fn read_sort(alloc: Global, value: &Value) -> Result<Stage, Refusal>
-    ensures { Gives Refusal.OutOfMemory stage_of result
-        (read_operand names.Sort (tree value.now)) }
-{
-    Ok(Stage::Sort(Sort::read(alloc, document_in(value)?)?))
-}
-
-/// What a stage does with this operand.
-pub(crate) fn read_operand(alloc: Global, stage: StageName, value: &Value) -> Result<Stage, Refusal>
-    ensures { Gives Refusal.OutOfMemory stage_of result (read_operand stage (tree value.now)) }
-{
-    match stage {
-        StageName::Match => read_match(alloc, value),
-        StageName::Project => read_project(alloc, value),
-        StageName::Unwind => Ok(Stage::Unwind(dollar_path_in(alloc, value)?)),
-        StageName::Group => read_group(alloc, value),
-        StageName::Sort => read_sort(alloc, value),
-        StageName::Skip => Ok(Stage::Skip(number_in(0, value)?)),
-        StageName::Limit => Ok(Stage::Limit(number_in(1, value)?)),
-        StageName::Count => Ok(Stage::Count(FieldName::read(alloc, text_in(value)?)?)),
-    }
-}
 
 /// What a stage makes of documents, which are moved and not copied where it changes none.
 pub(crate) fn apply_stage(

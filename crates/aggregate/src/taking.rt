@@ -6,15 +6,14 @@ ghost use Rattle.outcome.specs.Outcome.{Gives};
 ghost use Rattle.std.specs.List.{filter};
 ghost use Rattle.aggregate_model.specs.Limits.{first_fault};
 ghost use Rattle.aggregate_model.specs.Pipeline.{run};
-ghost use Rattle.aggregate.specs.GroupView.{grouping_of};
+ghost use Rattle.pipelines.specs.GroupView.{grouping_of};
 ghost use Rattle.aggregate_model.specs.Taking.{takes, behind_match, groups_first, leading_match, run_behind_groups, KeepsFirst, FirstAreEnough, SufficesTaken, IsEnough};
-ghost use Rattle.aggregate.specs.View.{stage_of, pipeline_of};
+ghost use Rattle.pipelines.specs.View.{stage_of, pipeline_of};
 
-use crate::pipeline::Pipeline;
-use crate::stage::Stage;
 use bson::{Document, NoMemory, RawDoc};
 use filter::Filter;
 use path::Refusal;
+use pipelines::{Pipeline, Stage};
 use sort::{AsDocument, Sort, laws};
 use std::alloc::Global;
 
@@ -47,79 +46,71 @@ fn enough(stages: &[Stage]) -> Option<usize>
     }
 }
 
-/// The filter of a `$match` in front.
-fn leading_match(stages: &[Stage]) -> Option<&Filter>
-    ensures { option_map (λ f. f.now) result ≡ leading_match (map stage_of stages.now) }
+/// The filter of a `$match` in front of a pipeline, by which alone it takes a document.
+pub fn leading_match(pipeline: &Pipeline) -> Option<&Filter>
+    ensures { option_map (λ f. f.now) result ≡ leading_match (pipeline_of pipeline.now) }
 {
-    match stages.first() {
+    match pipeline.stages.first() {
         Some(Stage::Match(filter)) => Some(filter),
         _ => None,
     }
 }
 
-/// Whether stages take a document at all: where a `$match` is the first one, whether that matches.
-fn takes_raw(alloc: Global, stages: &[Stage], document: &RawDoc<'_>) -> Result<bool, NoMemory>
-    ensures { IfOk result (λ answer. answer ≡ takes (map stage_of stages.now) document.now) }
+/// Whether a pipeline takes a document at all: where its first stage is a `$match`, whether that matches. It makes the same
+/// of the documents that it takes as of all of them. The document stays its bytes.
+pub fn takes_raw(
+    alloc: Global,
+    pipeline: &Pipeline,
+    document: &RawDoc<'_>,
+) -> Result<bool, NoMemory>
+    ensures { IfOk result (λ answer. answer ≡ takes (pipeline_of pipeline.now) document.now) }
 {
-    match stages.first() {
+    match pipeline.stages.first() {
         Some(Stage::Match(filter)) => filter.matches_raw(alloc, document),
         _ => Ok(true),
     }
 }
 
-impl Pipeline {
-    /// The filter of a `$match` in front, by which alone it takes a document.
-    pub fn leading_match(&self) -> Option<&Filter>
-        ensures { option_map (λ f. f.now) result ≡ leading_match (pipeline_of self.now) }
-    {
-        leading_match(&self.stages)
-    }
+/// How many of the first documents that a pipeline takes are enough, if all are within the limits: where there is a
+/// `$limit` behind no stage but a `$match` and `$skip`s.
+pub fn most_needed(pipeline: &Pipeline) -> Option<usize>
+    ensures { IfSome result (λ most. SufficesTaken (pipeline_of pipeline.now) most) }
+{
+    enough(behind_match(&pipeline.stages))
+}
 
-    /// Whether it takes a document at all: where its first stage is a `$match`, whether that matches. It makes the same
-    /// of the documents that it takes as of all of them. The document stays its bytes.
-    pub fn takes_raw(&self, alloc: Global, document: &RawDoc<'_>) -> Result<bool, NoMemory>
-        ensures { IfOk result (λ answer. answer ≡ takes (pipeline_of self.now) document.now) }
-    {
-        takes_raw(alloc, &self.stages, document)
-    }
+/// The `$sort` of which a pipeline keeps the first documents alone, where there is one in front or behind a `$match` in
+/// front.
+pub fn first_sorted(pipeline: &Pipeline) -> Option<FirstSorted<'_>>
+    ensures { IfSome result
+        (λ first. KeepsFirst (pipeline_of pipeline.now) first.sort.now first.most) }
+{
+    let Some((Stage::Sort(sort), behind)) = behind_match(&pipeline.stages).split_first() else {
+        return None;
+    };
+    let most = enough(behind)?;
+    laws::sorts_in_parts();
+    Some(FirstSorted { sort, most })
+}
 
-    /// How many of the first documents that it takes are enough, if all are within the limits: where there is a `$limit`
-    /// behind no stage but a `$match` and `$skip`s.
-    pub fn most(&self) -> Option<usize>
-        ensures { IfSome result (λ most. SufficesTaken (pipeline_of self.now) most) }
-    {
-        enough(behind_match(&self.stages))
+/// Those of documents that a pipeline still needs, where these are enough of all that it has taken so far: where it sorts
+/// them and keeps the first ones, these alone.
+pub fn still_needed<'a, T: AsDocument>(
+    pipeline: &Pipeline,
+    these: Vec<&'a T>,
+) -> Result<Vec<&'a T>, NoMemory>
+    ensures { (seen : List Pairs)
+        → IsEnough (pipeline_of pipeline.now) (map (λ d. T.document d.now) these.entry.items) seen
+        → IfOk result (λ v. IsEnough (pipeline_of pipeline.now)
+        (map (λ d. T.document d.now) v.items) seen) }
+{
+    let Some(first) = first_sorted(pipeline) else {
+        return Ok(these);
+    };
+    if these.len() <= first.most {
+        return Ok(these);
     }
-
-    /// The `$sort` of which it keeps the first documents alone, where there is one in front or behind a `$match` in front.
-    pub fn first_sorted(&self) -> Option<FirstSorted<'_>>
-        ensures { IfSome result
-            (λ first. KeepsFirst (pipeline_of self.now) first.sort.now first.most) }
-    {
-        let Some((Stage::Sort(sort), behind)) = behind_match(&self.stages).split_first() else {
-            return None;
-        };
-        let most = enough(behind)?;
-        laws::sorts_in_parts();
-        Some(FirstSorted { sort, most })
-    }
-
-    /// Those of documents that are still needed, where these are enough of all that it has taken so far: where it
-    /// sorts them and keeps the first ones, these alone.
-    pub fn still_needed<'a, T: AsDocument>(&self, these: Vec<&'a T>) -> Result<Vec<&'a T>, NoMemory>
-        ensures { (seen : List Pairs)
-            → IsEnough (pipeline_of self.now) (map (λ d. T.document d.now) these.entry.items) seen
-            → IfOk result (λ v. IsEnough (pipeline_of self.now)
-            (map (λ d. T.document d.now) v.items) seen) }
-    {
-        let Some(first) = self.first_sorted() else {
-            return Ok(these);
-        };
-        if these.len() <= first.most {
-            return Ok(these);
-        }
-        let mut ordered = first.sort.order_shared(these)?;
-        ordered.truncate(first.most);
-        Ok(ordered)
-    }
+    let mut ordered = first.sort.order_shared(these)?;
+    ordered.truncate(first.most);
+    Ok(ordered)
 }

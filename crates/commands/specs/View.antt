@@ -17,7 +17,7 @@ use Rattle.command_model.specs.CreateIndexes as index_creates
 use Rattle.command_model.specs.DropIndexes as index_drops
 use Rattle.command_model.specs.ListIndexes as index_lists
 use Rattle.command_model.specs.Explain as explains
-use Rattle.aggregate.specs.View.{pipeline_of}
+use Rattle.pipelines.specs.View.{pipeline_of}
 use Rattle.commands.specs.declared.insert.Insert.{Insert}
 use Rattle.commands.specs.declared.find.Find.{Find}
 use Rattle.commands.specs.declared.get_more.GetMore.{GetMore}

@@ -3,7 +3,7 @@
 ghost use Rattle.std.specs.Prelude.{◌≡◌};
 ghost use Rattle.bson.specs.View.{tree, pairs_of};
 ghost use Rattle.outcome.specs.Outcome.{Gives, Does};
-ghost use Rattle.aggregate.specs.View.{pipeline_of};
+ghost use Rattle.pipelines.specs.View.{pipeline_of};
 ghost use Rattle.command_model.specs.Aggregate.{no_cursor_fields, cursor_field, read_cursor, stages_in, no_aggregate_fields, aggregate_field, read_aggregate};
 ghost use Rattle.command_model.specs.Command.{as_command, aggregate};
 ghost use Rattle.commands.specs.View.{command_read};
@@ -12,9 +12,9 @@ use crate::command::Command;
 use crate::fields::{CommonFields, Fields, read_fields};
 use crate::names::namespace_of;
 use crate::values::{count_in, document_in, text_in};
-use aggregate::Pipeline;
 use bson::{Document, Pair, Value};
 use path::Refusal;
+use pipelines::Pipeline;
 use std::alloc::Global;
 use std::marker::Model;
 
@@ -82,7 +82,7 @@ impl<'a> Model for AggregateFields<'a> {
     ghost use Rattle.command_model.specs.Aggregate as aggregates;
     ghost use Rattle.std.specs.Coded.{codes};
     ghost use Rattle.aggregate_model.specs.StageCode.{coded_stage};
-    ghost use Rattle.aggregate.specs.View.{pipeline_of};
+    ghost use Rattle.pipelines.specs.View.{pipeline_of};
 
     ghost Value = { aggregates.AggregateFields };
 

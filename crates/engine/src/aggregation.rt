@@ -1,7 +1,7 @@
 //! `aggregate`: what a pipeline makes of the documents of a collection.
 
 ghost use Rattle.std.specs.Prelude.{◌≡◌, ◌≤◌, Some, All, IfOk, length};
-ghost use Rattle.aggregate.specs.View.{pipeline_of};
+ghost use Rattle.pipelines.specs.View.{pipeline_of};
 ghost use Rattle.database_model.specs.Aggregate.{run_aggregate};
 ghost use Rattle.database_model.specs.Cursors.{batch_of, first_batch};
 ghost use Rattle.engine.specs.Durable.{has_changes, IsSound};
@@ -15,10 +15,11 @@ ghost use Rattle.engine.specs.View.{world};
 ghost use Rattle.database_model.specs.World.{documents_of};
 
 use crate::engine::Engine;
-use aggregate::Pipeline;
+use aggregate::run;
 use bson::{Document, SpelledDocument};
 use page::Disk;
 use path::Refusal;
+use pipelines::Pipeline;
 use projection::Projection;
 use queries::piped_in;
 use replies::{ConnId, spelled_all};
@@ -38,7 +39,7 @@ impl<D: Disk> Engine<D> {
         ensures within { IfOk result (λ given. IfOk given (λ v. All IsWithin v.items)) }
     {
         let Some(home) = self.catalogued(namespace)? else {
-            return Ok(pipeline.run(Vec::new(self.alloc), STORED_LIMIT as u32));
+            return Ok(run(pipeline, Vec::new(self.alloc), STORED_LIMIT as u32));
         };
         piped_in(self.alloc, &mut self.file, &home, pipeline)
     }

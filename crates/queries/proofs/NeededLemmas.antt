@@ -18,7 +18,7 @@ use Rattle.btree.specs.declared.folding.Bounds.{Bounds}
 use Rattle.collections.specs.Folding.{documents_within, lies_within}
 use Rattle.database_model.specs.Aggregate.{AreEnough}
 use Rattle.database_model.specs.Lawful.{IsWithin}
-use Rattle.aggregate.specs.View.{pipeline_of}
+use Rattle.pipelines.specs.View.{pipeline_of}
 use Rattle.entries.specs.State.{key_of}
 use Rattle.planner.specs.IdLaws.{with_found}
 use Rattle.queries.specs.Folding.{Needs}

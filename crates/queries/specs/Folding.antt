@@ -9,7 +9,7 @@ use Rattle.sort.specs.Sort.{SortField, order}
 use Rattle.aggregate.specs.Gathering.{HasGathered}
 use Rattle.aggregate_model.specs.Stage.{Stage}
 use Rattle.aggregate_model.specs.Taking.{IsEnough, SufficesTaken, takes}
-use Rattle.aggregate.specs.View.{pipeline_of}
+use Rattle.pipelines.specs.View.{pipeline_of}
 use Rattle.database_model.specs.Find.{matching}
 use Rattle.database_model.specs.Lawful.{IsWithin}
 use Rattle.queries.specs.declared.counting.Counting.{Counting}

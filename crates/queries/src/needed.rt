@@ -4,7 +4,7 @@ ghost use Rattle.std.specs.Prelude.{◌≡◌, true, All, IfOk, IfSome, List, []
 ghost use Rattle.std.specs.List.{filter};
 ghost use Rattle.bson.specs.Tree.{Pairs};
 ghost use Rattle.aggregate_model.specs.Taking.{takes, IsEnough, SufficesTaken};
-ghost use Rattle.aggregate.specs.View.{pipeline_of};
+ghost use Rattle.pipelines.specs.View.{pipeline_of};
 ghost use Rattle.collections.specs.Reading.{ReadsOf};
 ghost use Rattle.command_model.specs.Insert.{documents_at};
 ghost use Rattle.database_model.specs.Aggregate.{AreEnough};
@@ -17,13 +17,14 @@ ghost use Rattle.queries.specs.Folding.{Needs};
 
 use crate::needed_by_order::needed_by_order;
 use crate::taken_by::TakenBy;
-use aggregate::Pipeline;
+use aggregate::{most_needed, still_needed, takes_raw};
 use bson::{Document, NoMemory, RawDoc, SpelledDocument};
 use candidate_ids::asked_ids;
 use collections::{Collections, DocumentFold};
 use entries::Catalogued;
 use page::Disk;
 use path::Refusal;
+use pipelines::Pipeline;
 use std::alloc::Global;
 use std::mem;
 use walks::{built_within, fold_asked, fold_dense, spelled_within};
@@ -52,7 +53,7 @@ fn only_needed(
         → IfOk result (λ v. IsEnough (pipeline_of pipeline.now) v.items seen) }
 {
     let lent = these.iter().collect(alloc)?;
-    let needed = pipeline.still_needed(lent)?;
+    let needed = still_needed(pipeline, lent)?;
     if needed.len() == these.len() {
         drop(needed);
         return Ok(these);
@@ -85,7 +86,7 @@ fn with_one_more(
 fn are_enough(pipeline: &Pipeline, count: usize) -> bool
     ensures { result ≡ true → SufficesTaken (pipeline_of pipeline.now) count }
 {
-    match pipeline.most() {
+    match most_needed(pipeline) {
         Some(most) => most <= count,
         None => false,
     }
@@ -113,7 +114,7 @@ impl DocumentFold for Needing<'_> {
         if self.is_enough {
             return Ok(());
         }
-        if !self.pipeline.takes_raw(self.alloc, document)? {
+        if !takes_raw(self.alloc, self.pipeline, document)? {
             return Ok(());
         }
         let built = built_within(self.alloc, document)?;
@@ -166,7 +167,7 @@ fn with_looked_up(
     let Some(document) = found else {
         return Ok(these);
     };
-    if !pipeline.takes_raw(alloc, &document.raw())? {
+    if !takes_raw(alloc, pipeline, &document.raw())? {
         return Ok(these);
     }
     with_one_more(alloc, pipeline, these, room, document.document(alloc)?)

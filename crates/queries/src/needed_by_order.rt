@@ -1,7 +1,7 @@
 //! The documents that a pipeline needs, where it keeps the first ones in the order of a `$sort`, and they can be read in that order.
 
 ghost use Rattle.std.specs.Prelude.{◌≡◌, All, IfOk, IfSome, take};
-ghost use Rattle.aggregate.specs.View.{pipeline_of};
+ghost use Rattle.pipelines.specs.View.{pipeline_of};
 ghost use Rattle.collections.specs.Reading.{ReadsOf};
 ghost use Rattle.database_model.specs.Aggregate.{AreEnough};
 ghost use Rattle.database_model.specs.Find.{matching};
@@ -15,13 +15,14 @@ use crate::by_order::first_by_index;
 use crate::id_order::keeps_id_order;
 use crate::looking_up::spelled_in;
 use crate::ordering::built_all;
-use aggregate::Pipeline;
+use aggregate::{first_sorted, leading_match};
 use bson::{Document, SpelledDocument};
 use collections::Collections;
 use entries::Catalogued;
 use filter::Filter;
 use page::Disk;
 use path::Refusal;
+use pipelines::Pipeline;
 use sort::Sort;
 use std::alloc::Global;
 
@@ -30,7 +31,7 @@ fn asked_by<'a>(pipeline: &'a Pipeline, all: &'a Filter) -> &'a Filter
     requires { all.now ≡ no_conditions }
     ensures { AsksTaken (pipeline_of pipeline.now) result.now }
 {
-    match pipeline.leading_match() {
+    match leading_match(pipeline) {
         Some(filter) => filter,
         None => all,
     }
@@ -79,7 +80,7 @@ pub(crate) fn needed_by_order<D: Disk>(
     if file.is_stopped() {
         return Err(Refusal::StorageFailed);
     }
-    let Some(first) = pipeline.first_sorted() else {
+    let Some(first) = first_sorted(pipeline) else {
         return Ok(None);
     };
     let all = Filter::new(alloc);

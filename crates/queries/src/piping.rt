@@ -3,7 +3,7 @@
 ghost use Rattle.std.specs.Prelude.{◌≡◌, All, IfOk, [], length};
 ghost use Rattle.aggregate.specs.Gathering.{HasGathered};
 ghost use Rattle.aggregate_model.specs.Taking.{takes};
-ghost use Rattle.aggregate.specs.View.{pipeline_of};
+ghost use Rattle.pipelines.specs.View.{pipeline_of};
 ghost use Rattle.collections.specs.Reading.{ReadsOf};
 ghost use Rattle.database_model.specs.Lawful.{IsWithin};
 ghost use Rattle.index.specs.View.{texts_of};
@@ -14,13 +14,14 @@ ghost use Rattle.queries.specs.Piping.{Pipes};
 
 use crate::needed::{needed_by_ids, needed_in};
 use crate::taken_by::TakenBy;
-use aggregate::{Gathering, Pipeline};
+use aggregate::{Gathering, run};
 use bson::{Document, RawDoc};
 use candidate_ids::asked_ids;
 use collections::{Collections, DocumentFold};
 use entries::Catalogued;
 use page::Disk;
 use path::Refusal;
+use pipelines::Pipeline;
 use std::alloc::Global;
 use stored_documents::STORED_LIMIT;
 use walks::fold_asked;
@@ -50,7 +51,7 @@ fn piped(pipeline: &Pipeline, documents: Vec<Document>) -> Result<Vec<Document>,
     ensures pipes { Pipes (pipeline_of pipeline.now) result documents.items }
     ensures within { IfOk result (λ v. All IsWithin v.items) }
 {
-    pipeline.run(documents, STORED_LIMIT as u32)
+    run(pipeline, documents, STORED_LIMIT as u32)
 }
 
 /// What a pipeline makes of a collection's documents that groups them, by a walk through it.
@@ -141,7 +142,7 @@ pub fn piped_in<D: Disk>(
         result file.old file.new }
     ensures within { IfOk result (λ given. IfOk given (λ v. All IsWithin v.items)) }
 {
-    match pipeline.gathering() {
+    match Gathering::of(pipeline) {
         Some(gathering) => grouped_in(alloc, file, home, pipeline, gathering),
         None => piped_needed(alloc, file, home, pipeline),
     }

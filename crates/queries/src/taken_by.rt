@@ -2,12 +2,13 @@
 
 ghost use Rattle.std.specs.Prelude.{option_to_list};
 ghost use Rattle.aggregate_model.specs.Taking.{leading_match, takes};
-ghost use Rattle.aggregate.specs.View.{pipeline_of};
+ghost use Rattle.pipelines.specs.View.{pipeline_of};
 
-use aggregate::Pipeline;
+use aggregate::{leading_match, takes_raw};
 use asked_documents::DocumentPredicate;
 use bson::{NoMemory, RawDoc};
 use filter::Filter;
+use pipelines::Pipeline;
 use std::alloc::Global;
 
 /// Those that the pipeline takes.
@@ -22,22 +23,22 @@ impl DocumentPredicate for TakenBy<'_> {
     ghost filters = { λ a. option_to_list (leading_match (pipeline_of a.pipeline.now)) };
 
     fn selects_raw(&self, alloc: Global, document: &RawDoc<'_>) -> Result<bool, NoMemory> {
-        self.pipeline.takes_raw(alloc, document)
+        takes_raw(alloc, self.pipeline, document)
     }
 
     fn filter_count(&self) -> usize {
-        usize::from(self.pipeline.leading_match().is_some())
+        usize::from(leading_match(self.pipeline).is_some())
     }
 
     fn filter_at(&self, _at: usize) -> Option<&Filter> {
-        self.pipeline.leading_match()
+        leading_match(self.pipeline)
     }
 
     fn put_ids(&self, _alloc: Global, _ids: &mut Vec<Vec<u8>>) -> Result<bool, NoMemory> {
-        Ok(self.pipeline.leading_match().is_some())
+        Ok(leading_match(self.pipeline).is_some())
     }
 
     fn asked_filter(&self) -> Option<&Filter> {
-        self.pipeline.leading_match()
+        leading_match(self.pipeline)
     }
 }

@@ -1,7 +1,7 @@
 use Rattle.std.proofs.Common.{subst}
 use Rattle.outcome.specs.Outcome.{Gives}
 use Rattle.path.specs.declared.refusal.Refusal.TheVariants as refusals
-use Rattle.aggregate.specs.GroupView.{grouping_of}
+use Rattle.pipelines.specs.GroupView.{grouping_of}
 use Rattle.aggregate.proofs.GroupLemmas.{grouped_is}
 use Rattle.aggregate.proofs.groups.grouped.Goals as goal
 

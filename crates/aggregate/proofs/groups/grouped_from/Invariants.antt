@@ -1,5 +1,5 @@
 use Rattle.std.proofs.Common.{◌≡◌, [], drop}
-use Rattle.aggregate.specs.GroupView.{grouping_of}
+use Rattle.pipelines.specs.GroupView.{grouping_of}
 use Rattle.aggregate.specs.Groups.{entries_of, IsIndexed}
 use Rattle.aggregate.specs.Table.{grouped_from}
 use Rattle.aggregate.proofs.groups.grouped_from.Given as goal

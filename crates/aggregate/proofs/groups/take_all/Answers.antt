@@ -1,4 +1,5 @@
-use Rattle.aggregate.specs.GroupView.{state_of, group_field_of}
+use Rattle.aggregate.specs.States.{state_of}
+use Rattle.pipelines.specs.GroupView.{group_field_of}
 use Rattle.std.proofs.Common.{map}
 use Rattle.aggregate.specs.Table.{taken}
 use Rattle.aggregate.proofs.PlaceLemmas.{take_all_end}

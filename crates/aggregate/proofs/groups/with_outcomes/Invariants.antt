@@ -1,5 +1,6 @@
 use Rattle.std.proofs.Common.{◌≡◌, drop, map}
-use Rattle.aggregate.specs.GroupView.{state_of, group_field_of}
+use Rattle.aggregate.specs.States.{state_of}
+use Rattle.pipelines.specs.GroupView.{group_field_of}
 use Rattle.aggregate.specs.Table.{with_outcomes}
 use Rattle.aggregate.proofs.groups.with_outcomes.Given as goal
 

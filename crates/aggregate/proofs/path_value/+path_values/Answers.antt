@@ -3,8 +3,7 @@ use Rattle.bson.specs.Tree.{count_items}
 use Rattle.bson.specs.Lawful.{IsArray}
 use Rattle.bson.specs.View.{tree, items_of}
 use Rattle.aggregate_model.specs.PathValue.{path_value, each_by_field}
-use Rattle.aggregate.proofs.ReadingLemmas.{item_count, if_ok_map}
-use Rattle.aggregate.proofs.PathLemmas.{count-lookup, path_value-kept, IsArray-each, path_value_step, items_more, items_end}
+use Rattle.aggregate.proofs.PathLemmas.{item_count, if_ok_map, count-lookup, path_value-kept, IsArray-each, path_value_step, items_more, items_end}
 use Rattle.aggregate.proofs.path_value.+path_values.Goals as goal
 
 pub of_value-returns : goal.of_value-returns

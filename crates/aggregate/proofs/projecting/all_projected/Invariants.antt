@@ -1,7 +1,7 @@
 use Rattle.std.proofs.Common.{◌≡◌, drop}
 use Rattle.aggregate_model.specs.Each.{behind}
 use Rattle.aggregate_model.specs.Project.{all_projected}
-use Rattle.aggregate.specs.View.{projecting_of}
+use Rattle.pipelines.specs.View.{projecting_of}
 use Rattle.aggregate.proofs.projecting.all_projected.Given as goal
 
 abbrev pub invariant-documents : goal.invariant-documents

@@ -1,6 +1,6 @@
 use Rattle.std.proofs.Common.{◌≡◌, drop, map}
 use Rattle.aggregate_model.specs.Project.{with_all_computed}
-use Rattle.aggregate.specs.View.{computed_of}
+use Rattle.pipelines.specs.View.{computed_of}
 use Rattle.aggregate.proofs.projecting.with_all_computed.Given as goal
 
 abbrev pub invariant-all : goal.invariant-all

@@ -1,6 +1,6 @@
 use Rattle.std.proofs.Common.{rules, ◌≡◌, ◌∷◌, ◌+◌, ◌<◌, List, map}
 use Rattle.aggregate_model.specs.Stage.{Stage, skip_stage}
-use Rattle.aggregate.specs.View.{stage_of}
+use Rattle.pipelines.specs.View.{stage_of}
 use Rattle.aggregate.proofs.TakingLemmas.{skip_enough}
 use Rattle.aggregate.proofs.taking.+enough.Goals as goal
 

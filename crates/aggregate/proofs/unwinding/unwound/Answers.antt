@@ -3,7 +3,7 @@ use Rattle.bson.specs.Tree.{Pairs}
 use Rattle.aggregate_model.specs.Each.{behind}
 use Rattle.aggregate_model.specs.Unwind.{unwound_document, unwound}
 use Rattle.aggregate.proofs.EachLemmas.{each_more, each_stops}
-use Rattle.aggregate.proofs.ReadingLemmas.{refused}
+use Rattle.pipelines.proofs.ReadingLemmas.{refused}
 use Rattle.aggregate.proofs.unwinding.unwound.Goals as goal
 
 pub returns-in_err-given-2 : goal.returns-in_err-given-2

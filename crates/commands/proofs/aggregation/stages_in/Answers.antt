@@ -7,7 +7,7 @@ use Rattle.outcome.specs.Outcome.{Gives}
 use Rattle.path.specs.declared.refusal.Refusal.{Refusal}
 use Rattle.aggregate_model.specs.Stage.{Stage}
 use Rattle.aggregate_model.specs.Pipeline.{read_pipeline}
-use Rattle.aggregate.specs.View.{pipeline_of}
+use Rattle.pipelines.specs.View.{pipeline_of}
 use Rattle.command_model.specs.Aggregate.{stages_in}
 use Rattle.path.specs.declared.refusal.Refusal.TheVariants as refusals
 use Rattle.commands.proofs.aggregation.stages_in.Goals as goal

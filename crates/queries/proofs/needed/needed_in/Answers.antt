@@ -2,7 +2,7 @@ use Rattle.std.proofs.Common.{Option, Vec, Global, subst}
 use Rattle.std.specs.Prelude.{IfSome}
 use Rattle.std.proofs.lemmas.Result.{err_from_is_err_and}
 use Rattle.bson.specs.Tree.{Pairs}
-use Rattle.aggregate.specs.View.{pipeline_of}
+use Rattle.pipelines.specs.View.{pipeline_of}
 use Rattle.database_model.specs.Aggregate.{AreEnough}
 use Rattle.asked_documents.specs.Asking.{IsAsked}
 use Rattle.asked_documents.proofs.ReadingLemmas.{reads_behind, reads_made, reads_refused}

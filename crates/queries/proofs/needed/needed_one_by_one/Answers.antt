@@ -3,7 +3,7 @@ use Rattle.std.proofs.lemmas.List.{drop_all}
 use Rattle.std.proofs.lemmas.Result.{err_from_is_err_and}
 use Rattle.bson.specs.Tree.{Pairs}
 use Rattle.aggregate_model.specs.Taking.{takes, SufficesTaken}
-use Rattle.aggregate.specs.View.{pipeline_of}
+use Rattle.pipelines.specs.View.{pipeline_of}
 use Rattle.collections.specs.Reading.{stored_at}
 use Rattle.database_model.specs.Aggregate.{AreEnough}
 use Rattle.index.specs.View.{texts_of}

@@ -1,6 +1,6 @@
 use Rattle.std.specs.Prelude.{drop}
 use Rattle.aggregate_model.specs.Taking.{takes}
-use Rattle.aggregate.specs.View.{pipeline_of}
+use Rattle.pipelines.specs.View.{pipeline_of}
 use Rattle.index.specs.View.{texts_of}
 use Rattle.asked_documents.specs.ById.{AreIdsOf}
 use Rattle.walks.proofs.LookingUpLemmas.{HasLookedUp, told_by_ids}

@@ -2,7 +2,7 @@ use Rattle.std.proofs.Common.{◌≡◌, List, rules, ap, sym, subst, ◌∙◌}
 use Rattle.bson.specs.Tree.{Pairs}
 use Rattle.command_model.specs.Insert.{documents_at}
 use Rattle.aggregate_model.specs.Taking.{IsEnough}
-use Rattle.aggregate.specs.View.{pipeline_of}
+use Rattle.pipelines.specs.View.{pipeline_of}
 use Rattle.asked_documents.proofs.AskingLemmas.{if_ok}
 use Rattle.queries.proofs.needed.only_needed.Goals as goal
 

@@ -3,7 +3,7 @@ use Rattle.std.specs.Prelude.{IfOk}
 use Rattle.std.specs.List.{filter}
 use Rattle.bson.specs.Tree.{Pairs}
 use Rattle.aggregate_model.specs.Taking.{takes, IsEnough}
-use Rattle.aggregate.specs.View.{pipeline_of}
+use Rattle.pipelines.specs.View.{pipeline_of}
 use Rattle.planner.specs.IdLaws.{with_found}
 use Rattle.queries.proofs.NeededLemmas.{none_found_enough, passed_enough, taken_alone}
 use Rattle.asked_documents.proofs.AskingLemmas.{if_ok}

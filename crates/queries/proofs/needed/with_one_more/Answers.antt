@@ -2,7 +2,7 @@ use Rattle.std.proofs.Common.{List, Vec, Global, [], ◌∷◌, ◌++◌, sym, s
 use Rattle.bson.specs.Tree.{Pairs}
 use Rattle.aggregate_model.specs.Taking.{IsEnough}
 use Rattle.aggregate_model.specs.EnoughLaws.{one_more_is_enough}
-use Rattle.aggregate.specs.View.{pipeline_of}
+use Rattle.pipelines.specs.View.{pipeline_of}
 use Rattle.queries.proofs.needed.with_one_more.Goals as goal
 use Rattle.queries.proofs.needed.with_one_more.Goals.{then-len-room+in_ok-these, else-len-room}
 

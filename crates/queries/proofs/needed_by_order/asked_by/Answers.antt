@@ -1,6 +1,6 @@
 use Rattle.std.proofs.Common.{Some, None, sym, ap, subst, ◌∙◌}
 use Rattle.std.specs.Option.{option_map}
-use Rattle.aggregate.specs.View.{pipeline_of}
+use Rattle.pipelines.specs.View.{pipeline_of}
 use Rattle.queries.specs.Folding.{AsksTaken}
 use Rattle.queries.proofs.NeededByOrderLemmas.{asks_taken}
 use Rattle.queries.proofs.needed_by_order.asked_by.Goals as goal

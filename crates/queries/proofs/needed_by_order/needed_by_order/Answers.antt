@@ -2,7 +2,7 @@ use Rattle.std.proofs.Common.{◌≡◌, Option, Some, None, Vec, Global, take, 
 use Rattle.std.specs.Prelude.{IfSome}
 use Rattle.bson.specs.Tree.{Pairs}
 use Rattle.aggregate_model.specs.Taking.{KeepsFirst}
-use Rattle.aggregate.specs.View.{pipeline_of}
+use Rattle.pipelines.specs.View.{pipeline_of}
 use Rattle.database_model.specs.Aggregate.{AreEnough}
 use Rattle.database_model.specs.Find.{matching}
 use Rattle.sort.specs.Sort.{order}

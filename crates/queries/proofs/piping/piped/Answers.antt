@@ -1,4 +1,4 @@
-use Rattle.aggregate.specs.View.{pipeline_of}
+use Rattle.pipelines.specs.View.{pipeline_of}
 use Rattle.queries.proofs.PipingLemmas.{outcome_within}
 use Rattle.queries.proofs.piping.piped.Goals as goal
 

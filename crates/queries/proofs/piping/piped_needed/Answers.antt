@@ -1,7 +1,7 @@
 use Rattle.std.proofs.Common.{Result, Vec, Global}
 use Rattle.std.proofs.lemmas.Result.{err_from_is_err_and}
 use Rattle.bson.specs.Tree.{Pairs}
-use Rattle.aggregate.specs.View.{pipeline_of}
+use Rattle.pipelines.specs.View.{pipeline_of}
 use Rattle.database_model.specs.Aggregate.{AreEnough}
 use Rattle.path.specs.declared.refusal.Refusal.{Refusal}
 use Rattle.asked_documents.specs.Asking.{IsAsked}

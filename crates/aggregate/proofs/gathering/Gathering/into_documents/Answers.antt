@@ -4,10 +4,10 @@ use Rattle.outcome.specs.Outcome.{Gives}
 use Rattle.path.specs.declared.refusal.Refusal.{Refusal}
 use Rattle.path.specs.declared.refusal.Refusal.TheVariants as refusals
 use Rattle.aggregate.specs.Gathering.{after_groups}
-use Rattle.aggregate.specs.GroupView.{grouping_of}
+use Rattle.pipelines.specs.GroupView.{grouping_of}
 use Rattle.aggregate.specs.Groups.{entries_of}
 use Rattle.aggregate_model.specs.Pipeline.{run}
-use Rattle.aggregate.specs.View.{stage_of}
+use Rattle.pipelines.specs.View.{stage_of}
 use Rattle.aggregate.proofs.GatheringLemmas.{finished_fine, finished_refused, gives_within}
 use Rattle.aggregate.proofs.gathering.Gathering.into_documents.Goals as goal
 

@@ -2,7 +2,7 @@ use Rattle.std.proofs.Common.{List, Result, Ok, map, sym, ap, ◌∙◌}
 use Rattle.bson.specs.Tree.{Pairs}
 use Rattle.path.specs.declared.refusal.Refusal.{Refusal}
 use Rattle.aggregate_model.specs.Each.{just, behind}
-use Rattle.aggregate.specs.GroupView.{group_field_of}
+use Rattle.pipelines.specs.GroupView.{group_field_of}
 use Rattle.aggregate.specs.Groups.{entry_of, entries_of}
 use Rattle.aggregate.specs.Table.{Entry, entry_document, entry_documents}
 use Rattle.aggregate.specs.declared.groups.Group.{Group}

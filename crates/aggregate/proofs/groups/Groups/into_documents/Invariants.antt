@@ -1,6 +1,6 @@
 use Rattle.std.proofs.Common.{◌≡◌, map}
 use Rattle.aggregate_model.specs.Each.{behind}
-use Rattle.aggregate.specs.GroupView.{group_field_of}
+use Rattle.pipelines.specs.GroupView.{group_field_of}
 use Rattle.aggregate.specs.Groups.{entry_of, entries_of}
 use Rattle.aggregate.specs.Table.{entry_documents}
 use Rattle.aggregate.proofs.groups.Groups.into_documents.Given as goal

@@ -5,7 +5,8 @@ use Rattle.bson.specs.View.{tree}
 use Rattle.indexmap.specs.IndexMap.{get}
 use Rattle.value_order.specs.KeyText.{tree_text}
 use Rattle.aggregate_model.specs.Group.{same}
-use Rattle.aggregate.specs.GroupView.{group_field_of, id_value_of}
+use Rattle.aggregate.specs.Found.{id_value_of}
+use Rattle.pipelines.specs.GroupView.{group_field_of}
 use Rattle.aggregate.specs.Groups.{entry_of, entries_of, same_text}
 use Rattle.aggregate.specs.Table.{Entry, has, put_document}
 use Rattle.aggregate.specs.declared.groups.Group.{Group}

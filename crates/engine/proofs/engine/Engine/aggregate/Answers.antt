@@ -2,7 +2,7 @@ use Rattle.std.proofs.Common.{ap, subst, Result, Vec, Global}
 use Rattle.std.specs.Prelude.{All, IfOk}
 use Rattle.std.proofs.lemmas.Result.{err_from_is_err_and}
 use Rattle.bson.specs.Tree.{Pairs}
-use Rattle.aggregate.specs.View.{pipeline_of}
+use Rattle.pipelines.specs.View.{pipeline_of}
 use Rattle.database_model.specs.Aggregate.{run_aggregate}
 use Rattle.database_model.specs.Lawful.{IsWithin}
 use Rattle.database_model.specs.World.{documents_of}

@@ -3,7 +3,7 @@ use Rattle.std.specs.Prelude.{All}
 use Rattle.std.proofs.lemmas.List.Elements.{All-nil}
 use Rattle.std.proofs.lemmas.Result.{err_from_is_err_and}
 use Rattle.bson.specs.Tree.{Pairs}
-use Rattle.aggregate.specs.View.{pipeline_of}
+use Rattle.pipelines.specs.View.{pipeline_of}
 use Rattle.database_model.specs.Lawful.{IsWithin}
 use Rattle.database_model.specs.World.{documents_of}
 use Rattle.path.specs.declared.refusal.Refusal.{Refusal}

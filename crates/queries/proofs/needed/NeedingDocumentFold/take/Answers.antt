@@ -1,7 +1,7 @@
 use Rattle.std.proofs.Common.{◌≡◌, [], ◌∷◌, Vec, Global, true, false, refl, sym, subst, ◌∙◌}
 use Rattle.bson.specs.Tree.{Pairs}
 use Rattle.aggregate_model.specs.Taking.{IsEnough, SufficesTaken, takes}
-use Rattle.aggregate.specs.View.{pipeline_of}
+use Rattle.pipelines.specs.View.{pipeline_of}
 use Rattle.database_model.specs.Lawful.{IsWithin}
 use Rattle.queries.proofs.NeededLemmas.{done_needed, one_needed, passed_enough, passed_within, taken_enough, taken_within}
 use Rattle.queries.proofs.needed.NeedingDocumentFold.take.Goals as goal

@@ -1,5 +1,5 @@
 use Rattle.std.specs.Borrow.{Bor}
-use Rattle.aggregate.specs.View.{pipeline_of}
+use Rattle.pipelines.specs.View.{pipeline_of}
 use Rattle.filter.specs.Condition.{Conditions}
 use Rattle.queries.proofs.TakenByLemmas.{leading_matches}
 use Rattle.queries.proofs.taken_by.TakenByDocumentPredicate.asked_filter.Goals as goal

@@ -1,6 +1,6 @@
 use Rattle.std.specs.Borrow.{Bor}
 use Rattle.aggregate_model.specs.Taking.{leading_match}
-use Rattle.aggregate.specs.View.{pipeline_of}
+use Rattle.pipelines.specs.View.{pipeline_of}
 use Rattle.filter.specs.Condition.{Conditions}
 use Rattle.queries.proofs.TakenByLemmas.{leading_at}
 use Rattle.queries.proofs.taken_by.TakenByDocumentPredicate.filter_at.Goals as goal

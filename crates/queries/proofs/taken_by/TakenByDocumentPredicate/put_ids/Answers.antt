@@ -1,7 +1,7 @@
 use Rattle.std.proofs.Common.{sym, ◌∙◌}
 use Rattle.std.specs.Borrow.{Bor}
 use Rattle.aggregate_model.specs.Taking.{leading_match}
-use Rattle.aggregate.specs.View.{pipeline_of}
+use Rattle.pipelines.specs.View.{pipeline_of}
 use Rattle.filter.specs.Condition.{Conditions}
 use Rattle.index.specs.View.{texts_of}
 use Rattle.queries.proofs.TakenByLemmas.{leading_tells, one_leads}

@@ -1,6 +1,0 @@
-use Rattle.std.proofs.Common.{◌≡◌, ◌++◌, drop, map}
-use Rattle.aggregate.specs.GroupView.{group_field_of}
-use Rattle.aggregate.proofs.grouping.copy_fields.Given as goal
-
-abbrev pub invariant-fields : goal.invariant-fields
-invariant-fields l = map group_field_of l.all.items ++ map group_field_of (drop l.field-index l.fields) ≡ map group_field_of l.fields
