@@ -10,10 +10,12 @@ use Rattle.bson.proofs.TreeLaws.{document_again}
 use Rattle.op_msg.specs.Request.{document_alone, document_in}
 use Rattle.drivers.specs.Answering.{kill_command}
 use Rattle.server.specs.ServerState.{ServerState}
-use Rattle.front.specs.Asking.{loan_to_end, IsNoOther, IsAskedOn, AsksWanted, EndsOn, EndsOne}
-use Rattle.front.specs.Lending.{loan_at, is_at_rest}
-use Rattle.front.specs.declared.lending.Loan.{Loan}
-use Rattle.front.specs.declared.open_cursors.OpenCursor.{OpenCursor}
+use Rattle.driver_sockets.specs.Choosing.{loan_to_end}
+use Rattle.driver_sockets.specs.Questions.{IsNoOther}
+use Rattle.front.specs.Asking.{IsAskedOn, AsksWanted, EndsOn, EndsOne}
+use Rattle.driver_sockets.specs.Lending.{loan_at, is_at_rest}
+use Rattle.driver_sockets.specs.declared.lending.Loan.{Loan}
+use Rattle.driver_sockets.specs.declared.open_cursors.OpenCursor.{OpenCursor}
 
 the_same : (q w : Option Pairs) (command : Pairs) → IsNoOther q w → q ≡ Some command → w ≡ Some command
 the_same None w command asks e = absurd cc

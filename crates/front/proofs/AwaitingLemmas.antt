@@ -1,24 +1,21 @@
 -- What stands on the connections that are lent to one socket.
-use Rattle.std.proofs.Common.{◌≡◌, ◌≢◌, ◌⊎◌, ℕ, zero, suc, true, false, List, [], set, Option, Some, None}
+use Rattle.std.proofs.Common.{◌≡◌, ◌≢◌, ◌⊎◌, ℕ, true, false, List, [], set, Option, Some, None}
 use Rattle.std.proofs.Common.{refl, sym, ap, subst, ◌∙◌, inl, inr, arith}
-use Rattle.std.specs.Prelude.{Bool, ◌==◌, nat_lt, if◌then◌else◌}
+use Rattle.std.specs.Prelude.{Bool, ◌==◌, if◌then◌else◌}
 use Rattle.std.proofs.lemmas.Bool.Decides.{nat_tests}
 use Rattle.bson.specs.Tree.{Pairs}
 use Rattle.server.specs.ServerState.{ServerState, add_bytes, fed as fed_server, feed_connections}
 use Rattle.server.specs.Streams.{connection_in}
 use Rattle.server.specs.declared.connection.Connection.{Connection}
 use Rattle.server.proofs.ConnectionIn.{fed_in}
-use Rattle.front.specs.Asking.{question_bytes, AsksWanted}
-use Rattle.front.specs.Cursors.{counts_of}
-use Rattle.front.specs.Lending.{borrower, count_at, is_at_rest, least_used, loan_at, with_one}
-use Rattle.front.specs.OneSocket.{connection_for, owner_of, owner_or_least}
-use Rattle.front.specs.Tying.{is_asked}
+use Rattle.driver_sockets.specs.Questions.{question_bytes}
+use Rattle.front.specs.Asking.{AsksWanted}
+use Rattle.driver_sockets.specs.Lending.{borrower, loan_at}
+use Rattle.driver_sockets.specs.Tying.{is_asked}
 use Rattle.front.specs.Unread.{HoldQuestions, HoldsUnread, HoldsFor}
-use Rattle.front.specs.declared.job.Question.{Question}
-use Rattle.front.specs.declared.lending.Loan.{Loan}
-use Rattle.front.specs.declared.open_cursors.OpenCursor.{OpenCursor}
-use Rattle.front.specs.declared.socket.Socket.{Socket}
-use Rattle.front.proofs.TyingLemmas.{borrower_after, same_or_not, some_is}
+use Rattle.driver_sockets.specs.declared.lending.Loan.{Loan}
+use Rattle.driver_sockets.specs.declared.socket.Socket.{Socket}
+use Rattle.driver_sockets.proofs.TyingLemmas.{borrower_after, same_or_not, some_is}
 use Rattle.front.proofs.UnreadLemmas.{holds_more, unread_asked}
 
 -- ---- which socket a connection is lent to
@@ -127,35 +124,3 @@ hold_on socket what loans after before now (inr k) h =
     (subst (λ (s : ServerState). HoldQuestions (set loans k.id (Some k.loan)) s.connections) (sym k.asked.came)
     (unread_asked loans before.connections k.id k.loan k.command (ap (λ (ls : List (Option Loan)). loan_at ls k.id) (sym k.lent) ∙ k.there) k.rest
     k.asked.room k.asked.reads h))
-
--- ---- a connection for a question is at rest
-
-least_at_rest : (loans : List (Option Loan)) (counts : List ℕ) (count id : ℕ) → least_used loans counts count ≡ Some id → is_at_rest loans id ≡ true
-unfolding least_used
-least_at_rest loans counts zero id e = absurd cc
-least_at_rest loans counts (suc count) id e =
-    at (is_at_rest loans count) refl (least_used loans counts count) refl (λ i. least_at_rest loans counts count i) e
-  where
-    one_of : (less : Bool) (other : ℕ) → is_at_rest loans count ≡ true → is_at_rest loans other ≡ true
-        → Some (if less then count else other) ≡ Some id → is_at_rest loans id ≡ true
-    one_of true other rest others e = ap (is_at_rest loans) (sym (some_is count id e)) ∙ rest
-    one_of false other rest others e = ap (is_at_rest loans) (sym (some_is other id e)) ∙ others
-
-    at : (rests : Bool) → is_at_rest loans count ≡ rests → (least : Option ℕ) → least_used loans counts count ≡ least
-        → ((i : ℕ) → least_used loans counts count ≡ Some i → is_at_rest loans i ≡ true)
-        → (if rests then with_one counts least count else least) ≡ Some id → is_at_rest loans id ≡ true
-    at false r least l before e = before id (l ∙ e)
-    at true r None l before e = ap (is_at_rest loans) (sym (some_is count id e)) ∙ r
-    at true r (Some other) l before e = one_of (nat_lt (count_at counts count) (count_at counts other)) other r (before other l) e
-
-pub for_one_at_rest : (loans : List (Option Loan)) (cursors : List OpenCursor) (question : Question) (id : ℕ)
-    → connection_for loans cursors question ≡ Some id → is_at_rest loans id ≡ true
-for_one_at_rest loans cursors question id e = at (owner_of cursors question.cursor) e
-  where
-    owners : (owner : ℕ) (rests : Bool) → is_at_rest loans owner ≡ rests → (if rests then Some owner else None) ≡ Some id → is_at_rest loans id ≡ true
-    owners owner true r e = ap (is_at_rest loans) (sym (some_is owner id e)) ∙ r
-    owners owner false r e = absurd cc
-
-    at : (o : Option ℕ) → owner_or_least loans cursors o ≡ Some id → is_at_rest loans id ≡ true
-    at (Some owner) e = owners owner (is_at_rest loans owner) refl e
-    at None e = least_at_rest loans (counts_of cursors) 64 id e

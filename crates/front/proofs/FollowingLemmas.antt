@@ -10,27 +10,31 @@ use Rattle.drivers.specs.declared.server_info.ServerInfo.{ServerInfo}
 use Rattle.server.specs.ServerState.{ServerState}
 use Rattle.server.specs.declared.connection.Connection.{Connection}
 use Rattle.front.specs.Asking.{AsksWanted, EndsOne}
-use Rattle.front.specs.Cursors.{first_to_end}
-use Rattle.front.specs.Lending.{borrower, is_at_rest, loan_at}
-use Rattle.front.specs.OneSocket.{Asking, AsksBy, AsksFor, AsksOrRefuses, AsksUnless, Seat, connection_for, is_held, is_long, loan_of, pending}
-use Rattle.front.specs.Replying.{Begins, long_reply}
+use Rattle.driver_sockets.specs.Cursors.{first_to_end}
+use Rattle.driver_sockets.specs.Lending.{borrower, is_at_rest, loan_at}
+use Rattle.front.specs.OneSocket.{Asking, AsksBy, AsksFor, AsksOrRefuses, AsksUnless, Seat, is_held, is_long}
+use Rattle.driver_sockets.specs.Choosing.{connection_for, loan_of}
+use Rattle.driver_sockets.specs.Questions.{pending}
+use Rattle.driver_sockets.specs.Replying.{Begins, long_reply}
 use Rattle.front.specs.Rounds.{EndsEach}
 use Rattle.front.specs.Served.{IsAt, IsReplyTo, ServerTurn, Stand, Worked, standing}
-use Rattle.front.specs.Serving.{fresh}
-use Rattle.front.specs.Turning.{AreServed, Desk, Does, EachOnce, info_of, seat_at}
-use Rattle.front.specs.Tying.{is_asked}
+use Rattle.driver_sockets.specs.Serving.{fresh}
+use Rattle.front.specs.Turning.{AreServed, Desk, Does, EachOnce, seat_at}
+use Rattle.driver_sockets.specs.Info.{info_of}
+use Rattle.driver_sockets.specs.Tying.{is_asked}
 use Rattle.front.specs.Unread.{HoldQuestions}
-use Rattle.front.specs.declared.job.Job.{Job}
-use Rattle.front.specs.declared.job.Question.{Question}
-use Rattle.front.specs.declared.job.Stage.{Stage}
-use Rattle.front.specs.declared.job.Stage.TheVariants as stages
-use Rattle.front.specs.declared.lending.Loan.{Loan}
-use Rattle.front.specs.declared.open_cursors.OpenCursor.{OpenCursor}
-use Rattle.front.specs.declared.socket.Socket.{Socket}
+use Rattle.driver_sockets.specs.declared.job.Job.{Job}
+use Rattle.driver_sockets.specs.declared.job.Question.{Question}
+use Rattle.driver_sockets.specs.declared.job.Stage.{Stage}
+use Rattle.driver_sockets.specs.declared.job.Stage.TheVariants as stages
+use Rattle.driver_sockets.specs.declared.lending.Loan.{Loan}
+use Rattle.driver_sockets.specs.declared.open_cursors.OpenCursor.{OpenCursor}
+use Rattle.driver_sockets.specs.declared.socket.Socket.{Socket}
 use Rattle.front.proofs.ServedLemmas.{Begun, Story, asked_as, asked_now, story_asked, story_begins, story_closed}
 use Rattle.front.proofs.ServedLemmas.{story_replied, story_waits}
-use Rattle.front.proofs.TyingLemmas.{same_or_not, some_is}
-use Rattle.front.proofs.AwaitingLemmas.{Awaits, IsFree, awaits_its_own, awaits_nothing, awaits_still, for_one_at_rest, free_still, hold_on}
+use Rattle.driver_sockets.proofs.LoanLemmas.{for_one_at_rest}
+use Rattle.driver_sockets.proofs.TyingLemmas.{same_or_not, some_is}
+use Rattle.front.proofs.AwaitingLemmas.{Awaits, IsFree, awaits_its_own, awaits_nothing, awaits_still, free_still, hold_on}
 
 module _ {D : Type 0} (turns : List (ServerTurn D)) (n : ℕ) where
   -- A socket between the parts of a turn.

@@ -2,7 +2,7 @@
 use Rattle.std.proofs.Common.{◌≡◌, ℕ, ◌+◌, ◌<◌, List, [], ◌∷◌, ◌++◌, length, drop, slice_index_or, refl, sym, ap, subst, ◌∙◌, add-one, drop-cons}
 use Rattle.sockets.specs.Handing.{Hands}
 use Rattle.front.specs.Fronting.{frame_to, answers_from}
-use Rattle.front.specs.declared.socket.Socket.{Socket}
+use Rattle.driver_sockets.specs.declared.socket.Socket.{Socket}
 
 pub hands_on : {O : Type 0} (is_given : O → ℕ → List ℕ → O → Type 0) (rs ss : List (ℕ × List ℕ)) (before between after : O) → Hands is_given rs before between
     → Hands is_given ss between after → Hands is_given (rs ++ ss) before after

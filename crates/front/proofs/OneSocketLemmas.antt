@@ -6,12 +6,13 @@ use Rattle.bson.specs.Spelling.{frame_of, pairs_bytes}
 use Rattle.bson.specs.Tree.{Pairs}
 use Rattle.driver_messages.specs.Incoming.{next_message}
 use Rattle.drivers.specs.declared.server_info.ServerInfo.{ServerInfo}
-use Rattle.front.specs.OneSocket.{connection_for, is_held, is_long, pending, AsksBy, Asking, AsksOrRefuses, AsksUnless, IsAsked, IsSeatRefused}
-use Rattle.front.specs.OneSocket.{Seat, Serves}
-use Rattle.front.specs.Replying.{Begins}
-use Rattle.front.specs.declared.job.Question.{Question}
-use Rattle.front.specs.declared.open_cursors.OpenCursor.{OpenCursor}
-use Rattle.front.specs.declared.socket.Socket.{Socket}
+use Rattle.driver_sockets.specs.Choosing.{connection_for}
+use Rattle.front.specs.OneSocket.{is_held, is_long, AsksBy, Asking, AsksOrRefuses, AsksUnless, IsAsked, IsSeatRefused, Seat, Serves}
+use Rattle.driver_sockets.specs.Questions.{pending}
+use Rattle.driver_sockets.specs.Replying.{Begins}
+use Rattle.driver_sockets.specs.declared.job.Question.{Question}
+use Rattle.driver_sockets.specs.declared.open_cursors.OpenCursor.{OpenCursor}
+use Rattle.driver_sockets.specs.declared.socket.Socket.{Socket}
 
 -- ---- nothing is asked
 

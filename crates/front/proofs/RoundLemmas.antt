@@ -4,18 +4,18 @@ use Rattle.std.proofs.Common.{sym, ap, subst, ◌∙◌, inl, inr, ◌⊎◌, ar
 use Rattle.std.specs.Prelude.{Result, Ok, Err, OnOk, OnErr, Vec}
 use Rattle.server.specs.ServerState.{ServerState, ended}
 use Rattle.server.specs.View.{frames_in}
-use Rattle.front.specs.Fronting.{answered, answers_from, closed_from, HandsOut}
-use Rattle.front.specs.Lending.{loan_at, borrower}
-use Rattle.front.specs.Replying.{Becomes, IsClosed, TakesFrame}
+use Rattle.driver_sockets.specs.Serving.{answered, OthersStay}
+use Rattle.front.specs.Fronting.{answers_from, closed_from, HandsOut}
+use Rattle.driver_sockets.specs.Lending.{loan_at, borrower}
+use Rattle.driver_sockets.specs.Replying.{Becomes, IsClosed, TakesFrame}
 use Rattle.front.specs.Rounds.{EndsEach, EndsFirst, Floor, TakesEach, TakesOne}
-use Rattle.front.specs.Serving.{OthersStay}
 use Rattle.front.specs.Turning.{Desk}
 use Rattle.front.specs.Unread.{HaveReplies}
-use Rattle.front.specs.declared.lending.Lending.{Lending}
-use Rattle.front.specs.declared.lending.Loan.{Loan}
-use Rattle.front.specs.declared.socket.Socket.{Socket}
+use Rattle.driver_sockets.specs.declared.lending.Lending.{Lending}
+use Rattle.driver_sockets.specs.declared.lending.Loan.{Loan}
+use Rattle.driver_sockets.specs.declared.socket.Socket.{Socket}
 use Rattle.std.proofs.lemmas.List.{length-map}
-use Rattle.front.proofs.TyingLemmas.{written}
+use Rattle.driver_sockets.proofs.TyingLemmas.{written}
 use Rattle.front.proofs.UnreadLemmas.{replies_left}
 
 -- ---- cursors are ended

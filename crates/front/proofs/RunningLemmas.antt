@@ -21,23 +21,23 @@ use Rattle.server.specs.declared.turn.Core.{Core}
 use Rattle.server.specs.declared.turn.TurnFault.{TurnFault}
 use Rattle.server.specs.declared.turn.TurnFault.TheVariants as turn_faults
 use Rattle.server.specs.declared.turn.TurnOut.{TurnOut}
-use Rattle.front.specs.Asking.{question_bytes}
-use Rattle.front.specs.Fronting.{answered, Forgets, HandsOut, IsFrontSound, TakesBytes}
-use Rattle.front.specs.Lending.{borrower, loan_at}
-use Rattle.front.specs.Replying.{Becomes, IsClosed, TakesDocument}
+use Rattle.driver_sockets.specs.Questions.{question_bytes}
+use Rattle.driver_sockets.specs.Serving.{answered, fed, fresh}
+use Rattle.front.specs.Fronting.{Forgets, HandsOut, IsFrontSound, TakesBytes}
+use Rattle.driver_sockets.specs.Lending.{borrower, loan_at}
+use Rattle.driver_sockets.specs.Replying.{Becomes, IsClosed, TakesDocument}
 use Rattle.front.specs.Rounds.{Floor, IsRound, MakesTurn, TakesAll, TakesEach, TakesOne, floor}
 use Rattle.front.specs.Running.{Runs, frames_to, socket_in, turn_of, turns_of}
 use Rattle.front.specs.Served.{IsReplyTo, IsServed, ServerTurn}
-use Rattle.front.specs.Serving.{fed, fresh}
 use Rattle.front.specs.Turning.{desk}
-use Rattle.front.specs.Tying.{AreTied, is_asked}
+use Rattle.driver_sockets.specs.Tying.{AreTied, is_asked}
 use Rattle.front.specs.Unread.{HoldQuestions, HoldsUnread}
 use Rattle.front.specs.declared.front.Front.{Front}
-use Rattle.front.specs.declared.lending.Loan.{Loan}
-use Rattle.front.specs.declared.socket.Socket.{Socket}
+use Rattle.driver_sockets.specs.declared.lending.Loan.{Loan}
+use Rattle.driver_sockets.specs.declared.socket.Socket.{Socket}
 use Rattle.front.proofs.ServedLemmas.{Replied, asked_now, is_served, ready, story_closed, story_fed}
 use Rattle.front.proofs.ServedLemmas.{story_fresh, story_replied}
-use Rattle.front.proofs.TyingLemmas.{borrower_left, borrower_ended, same_or_not}
+use Rattle.driver_sockets.proofs.TyingLemmas.{borrower_left, borrower_ended, same_or_not}
 use Rattle.front.proofs.SocketsLemmas.{answered_at, frames_both, frames_of_one, grown_at, with_chunk}
 use Rattle.front.proofs.AwaitingLemmas.{IsFree, awaits_nothing, borrows}
 use Rattle.front.proofs.FollowingLemmas.{Follows, begins, comes_to, ends_each}

@@ -16,16 +16,16 @@ use Rattle.drivers.specs.declared.plan.Plan.{Plan}
 use Rattle.drivers.specs.declared.server_info.ServerInfo.{ServerInfo}
 use Rattle.drivers.specs.declared.step.Step.{Step}
 use Rattle.drivers.specs.declared.step.Step.TheVariants as steps
-use Rattle.server.specs.Turn.{next_number}
-use Rattle.front.specs.Replying.{Begins, Follows, GoesOn, HasAnswer, IsClosed, TakesReply, WaitsOrCloses, closed, question_by, resting, to_ask, told}
-use Rattle.front.specs.OneSocket.{waiting}
+use Rattle.driver_sockets.specs.Replying.{Begins, Follows, GoesOn, HasAnswer, IsClosed, TakesReply, WaitsOrCloses}
+use Rattle.driver_sockets.specs.Replying.{closed, next_number, question_by, resting, to_ask, told}
+use Rattle.driver_sockets.specs.Questions.{waiting}
 use Rattle.front.specs.Served.{Worked, standing, answer_behind, messages_of, number_behind, last_number, answers_of, AreReplies, AllAreReplies, IsReplyTo}
 use Rattle.front.specs.Served.{HaveEnded, IsWorkedOn, Stand, IsServed, ServerTurn}
-use Rattle.front.specs.Serving.{fed, fresh}
-use Rattle.front.specs.declared.job.Job.{Job}
-use Rattle.front.specs.declared.job.Question.{Question}
-use Rattle.front.specs.declared.socket.Socket.{Socket}
-use Rattle.front.proofs.TyingLemmas.{some_is}
+use Rattle.driver_sockets.specs.Serving.{fed, fresh}
+use Rattle.driver_sockets.specs.declared.job.Job.{Job}
+use Rattle.driver_sockets.specs.declared.job.Question.{Question}
+use Rattle.driver_sockets.specs.declared.socket.Socket.{Socket}
+use Rattle.driver_sockets.proofs.TyingLemmas.{some_is}
 
 -- ---- one more
 

@@ -3,10 +3,10 @@ use Rattle.std.proofs.Common.{◌≡◌, ◌≢◌, ℕ, zero, suc, ◌+◌, ◌
 use Rattle.std.proofs.Common.{refl, ap, ◌∙◌, arith, append_assoc}
 use Rattle.std.specs.Prelude.{Bool, Vec, ◌==◌, if◌then◌else◌, option_to_list}
 use Rattle.std.proofs.lemmas.Bool.Decides.{nat_tests}
-use Rattle.front.specs.Fronting.{answered, answers_from, frame_to}
+use Rattle.driver_sockets.specs.Serving.{answered, HaveGrown, fresh}
+use Rattle.front.specs.Fronting.{answers_from, frame_to}
 use Rattle.front.specs.Running.{frames_to}
-use Rattle.front.specs.Serving.{HaveGrown, fresh}
-use Rattle.front.specs.declared.socket.Socket.{Socket}
+use Rattle.driver_sockets.specs.declared.socket.Socket.{Socket}
 use Rattle.front.proofs.ServedLemmas.{ready}
 
 -- ---- lists of sockets and frames

@@ -9,14 +9,16 @@ use Rattle.std.proofs.lemmas.List.Elements.{Contains-append_cases, Contains-appe
 use Rattle.std.proofs.lemmas.Nat.{mul-le, mod_below, mod-mul-add}
 use Rattle.drivers.specs.declared.server_info.ServerInfo.{ServerInfo}
 use Rattle.server.specs.ServerState.{ServerState}
-use Rattle.front.specs.Alone.{is_alone}
-use Rattle.front.specs.Asking.{wanted, AsksWanted}
-use Rattle.front.specs.Serving.{OthersStay, fresh, waits}
+use Rattle.driver_sockets.specs.Alone.{is_alone}
+use Rattle.driver_sockets.specs.Questions.{wanted}
+use Rattle.front.specs.Asking.{AsksWanted}
+use Rattle.driver_sockets.specs.Serving.{OthersStay, fresh, waits}
 use Rattle.front.specs.OneSocket.{RunsOut, Seat, Serves}
-use Rattle.front.specs.Turning.{after_ids, info_of, seat_at, Desk, Does, ServesOne, AreServed, AsksAlone, AsksInTurn, EachOnce, GoesOnWithOne, Waits}
-use Rattle.front.specs.declared.lending.Loan.{Loan}
-use Rattle.front.specs.declared.open_cursors.OpenCursor.{OpenCursor}
-use Rattle.front.specs.declared.socket.Socket.{Socket}
+use Rattle.driver_sockets.specs.Info.{after_ids, info_of}
+use Rattle.front.specs.Turning.{seat_at, Desk, Does, ServesOne, AreServed, AsksAlone, AsksInTurn, EachOnce, GoesOnWithOne, Waits}
+use Rattle.driver_sockets.specs.declared.lending.Loan.{Loan}
+use Rattle.driver_sockets.specs.declared.open_cursors.OpenCursor.{OpenCursor}
+use Rattle.driver_sockets.specs.declared.socket.Socket.{Socket}
 
 pub others_set : (ss : List Socket) (n : ℕ) (new : Socket) → OthersStay ss (Some n) (set ss n new)
 others_set ss n new = record {

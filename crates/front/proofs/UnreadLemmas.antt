@@ -26,13 +26,14 @@ use Rattle.server.specs.declared.connection.Connection.{Connection}
 use Rattle.server.specs.declared.turn.Core.{Core}
 use Rattle.server.specs.declared.turn.TurnOut.{TurnOut}
 use Rattle.server.proofs.ConnectionIn.{Front, dropped_in, ended_in, fed_in, found_by, none_faulty, turned_in}
-use Rattle.front.specs.Asking.{question_bytes, IsAskedOn}
-use Rattle.front.specs.Laws.{question_frame}
-use Rattle.front.specs.Lending.{loan_at, after_end}
+use Rattle.driver_sockets.specs.Questions.{question_bytes}
+use Rattle.front.specs.Asking.{IsAskedOn}
+use Rattle.driver_sockets.specs.Laws.{question_frame}
+use Rattle.driver_sockets.specs.Lending.{loan_at, after_end}
 use Rattle.front.specs.Unread.{AreAtRest, HasReply, HasTurned, HaveReplies, HoldNothing, HoldQuestions, HoldsUnread, HoldsFor, HoldsQuestion, IsBehind}
-use Rattle.front.specs.declared.lending.Loan.{Loan}
-use Rattle.front.proofs.FrameLaws.{questions_are_messages}
-use Rattle.front.proofs.TyingLemmas.{same_or_not}
+use Rattle.driver_sockets.specs.declared.lending.Loan.{Loan}
+use Rattle.driver_sockets.proofs.FrameLaws.{questions_are_messages}
+use Rattle.driver_sockets.proofs.TyingLemmas.{same_or_not}
 
 -- ---- a question comes
 

@@ -2,13 +2,13 @@
 use Rattle.std.specs.Prelude.{◌≡◌, ℕ, ◌+◌, Bool, if◌then◌else◌, List, [], ◌∷◌, ◌++◌, map, slice_set}
 use Rattle.std.specs.Prelude.{slice_index_or, length, max, ◌<◌, ◌≤◌, Option, Some, None, Vec}
 use Rattle.page.specs.History.{History}
-use Rattle.front.specs.Alone.{StandsAlone}
-use Rattle.front.specs.Lending.{after_end}
-use Rattle.front.specs.Serving.{fed, fresh, HaveGrown}
-use Rattle.front.specs.Tying.{AreTied}
+use Rattle.driver_sockets.specs.Alone.{StandsAlone}
+use Rattle.driver_sockets.specs.Lending.{after_end}
+use Rattle.driver_sockets.specs.Serving.{answered, fed, fresh, HaveGrown}
+use Rattle.driver_sockets.specs.Tying.{AreTied}
 use Rattle.front.specs.Unread.{IsBehind}
 use Rattle.front.specs.declared.front.Front.{Front}
-use Rattle.front.specs.declared.socket.Socket.{Socket}
+use Rattle.driver_sockets.specs.declared.socket.Socket.{Socket}
 
 -- What holds of a front between two calls.
 abbrev pub IsFrontSound : {C D : Type 0} → (D → History) → Front C D → Type 0
@@ -32,10 +32,6 @@ closing i is_over = if is_over then i ∷ [] else []
 abbrev pub closed_from : ℕ → List Socket → List ℕ
 closed_from i [] = []
 closed_from i (s ∷ ss) = closing i s.is_over ++ closed_from (i + 1) ss
-
--- a socket whose answer was handed out
-abbrev pub answered : Socket → Socket
-answered s = record s { answer = None }
 
 -- A turn hands out the answers that are ready, one of a socket at most and in rising number, and
 -- closes the sockets that are to be closed.

@@ -1,13 +1,6 @@
-pub mod Lending
-pub mod Serving
-pub mod Tying
-pub mod Alone
 pub mod Fronting
 pub mod Asking
-pub mod Replying
-pub mod Laws
 pub mod Turning
-pub mod Cursors
 pub mod OneSocket
 pub mod Unread
 pub mod Rounds

@@ -1,7 +1,7 @@
 -- What a turn does with one socket: it takes the message at its front, if it works on none, and
 -- asks what is wanted for it, if it can.
-use Rattle.std.specs.Prelude.{◌≡◌, ◌⊎◌, ℕ, ℤ, Bool, true, false, ◌&&◌, is_some, if◌then◌else◌}
-use Rattle.std.specs.Prelude.{nat_lt, List, length, slice_set, Option, Some, None, option_map}
+use Rattle.std.specs.Prelude.{◌≡◌, ◌⊎◌, ℕ, Bool, true, false, ◌&&◌, is_some, if◌then◌else◌}
+use Rattle.std.specs.Prelude.{nat_lt, List, length, slice_set, Option, Some, None}
 use Rattle.std.specs.List.{list_any}
 use Rattle.bson.specs.Spelling.{frame_of, pairs_bytes}
 use Rattle.bson.specs.Tree.{Pairs}
@@ -10,44 +10,16 @@ use Rattle.drivers.specs.declared.server_info.ServerInfo.{ServerInfo}
 use Rattle.server.specs.ServerState.{ServerState}
 use Rattle.server.specs.View.{state}
 use Rattle.server.specs.declared.turn.Core.{Core}
-use Rattle.front.specs.Alone.{is_alone}
+use Rattle.driver_sockets.specs.Alone.{is_alone}
 use Rattle.front.specs.Asking.{IsAskedOn}
-use Rattle.front.specs.Cursors.{counts_of, owner_in}
-use Rattle.front.specs.Lending.{is_at_rest, least_used}
-use Rattle.front.specs.Replying.{Begins, IsClosed, TakesReply, WaitsOrCloses, long_reply}
-use Rattle.front.specs.declared.job.Job.{Job}
-use Rattle.front.specs.declared.job.Question.{Question}
-use Rattle.front.specs.declared.job.Stage.{Stage}
-use Rattle.front.specs.declared.job.Stage.TheVariants as stages
-use Rattle.front.specs.declared.lending.Lending.{Lending}
-use Rattle.front.specs.declared.lending.Loan.{Loan}
-use Rattle.front.specs.declared.open_cursors.OpenCursor.{OpenCursor}
-use Rattle.front.specs.declared.socket.Socket.{Socket}
-
--- ---- on which connection
-
-abbrev pub owner_of : List OpenCursor → Option ℤ → Option ℕ
-owner_of cursors None = None
-owner_of cursors (Some id) = owner_in id cursors
-
-abbrev pub owner_or_least : List (Option Loan) → List OpenCursor → Option ℕ → Option ℕ
-owner_or_least loans cursors (Some owner) = if is_at_rest loans owner then Some owner else None
-owner_or_least loans cursors None = least_used loans (counts_of cursors) 64
-
--- The connection that a question is asked on now: the one that owns its cursor, if that is at rest;
--- of a question about no cursor that is known the one at rest with the fewest, if any is at rest.
-abbrev pub connection_for : List (Option Loan) → List OpenCursor → Question → Option ℕ
-connection_for loans cursors question =
-    owner_or_least loans cursors (owner_of cursors question.cursor)
-
--- what is to be asked for the message that is worked on
-abbrev pub pending_at : Stage → Option Question
-pending_at (stages.Asks question) = Some question
-pending_at stages.Waits = None
-
-abbrev pub pending : Option Job → Option Question
-pending None = None
-pending (Some job) = pending_at job.stage
+use Rattle.driver_sockets.specs.Choosing.{connection_for, loan_of}
+use Rattle.driver_sockets.specs.Questions.{pending, waiting}
+use Rattle.driver_sockets.specs.Replying.{Begins, IsClosed, TakesReply, WaitsOrCloses, long_reply}
+use Rattle.driver_sockets.specs.declared.job.Question.{Question}
+use Rattle.driver_sockets.specs.declared.lending.Lending.{Lending}
+use Rattle.driver_sockets.specs.declared.lending.Loan.{Loan}
+use Rattle.driver_sockets.specs.declared.open_cursors.OpenCursor.{OpenCursor}
+use Rattle.driver_sockets.specs.declared.socket.Socket.{Socket}
 
 -- ---- asking
 
@@ -60,15 +32,6 @@ pub record Seat : Type 0 where
 abbrev pub seat : {D : Type 0} → Lending → Core D → Socket → Seat
 seat lending core socket =
     record { loans = lending.loans; server = state core; socket = socket }
-
-abbrev pub loan_of : ℕ → Question → Loan
-loan_of number question = record { socket = Some number; cursor = question.cursor }
-
-abbrev pub waiting_job : Job → Job
-waiting_job job = record job { stage = stages.Waits }
-
-abbrev pub waiting : Socket → Socket
-waiting socket = record socket { job = option_map waiting_job socket.job }
 
 -- the command has no room in a message
 abbrev pub is_long : Pairs → Bool

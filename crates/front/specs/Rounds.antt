@@ -13,16 +13,16 @@ use Rattle.server.specs.declared.turn.TurnFault.{TurnFault}
 use Rattle.server.specs.declared.turn.TurnFault.TheVariants as turn_faults
 use Rattle.server.specs.declared.turn.TurnOut.{TurnOut}
 use Rattle.front.specs.Asking.{EndsOne}
-use Rattle.front.specs.Cursors.{first_to_end}
+use Rattle.driver_sockets.specs.Cursors.{first_to_end}
 use Rattle.front.specs.Fronting.{HandsOut, IsFrontSound}
-use Rattle.front.specs.Lending.{loan_at, borrower}
-use Rattle.front.specs.Replying.{Becomes, IsClosed, TakesFrame}
-use Rattle.front.specs.Serving.{OthersStay}
+use Rattle.driver_sockets.specs.Lending.{loan_at, borrower}
+use Rattle.driver_sockets.specs.Replying.{Becomes, IsClosed, TakesFrame}
+use Rattle.driver_sockets.specs.Serving.{OthersStay}
 use Rattle.front.specs.Turning.{AsksInTurn, Desk, desk}
 use Rattle.front.specs.Unread.{AreAtRest}
 use Rattle.front.specs.declared.front.Front.{Front}
-use Rattle.front.specs.declared.lending.Loan.{Loan}
-use Rattle.front.specs.declared.socket.Socket.{Socket}
+use Rattle.driver_sockets.specs.declared.lending.Loan.{Loan}
+use Rattle.driver_sockets.specs.declared.socket.Socket.{Socket}
 
 -- ---- cursors are ended
 

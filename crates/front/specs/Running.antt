@@ -10,9 +10,9 @@ use Rattle.server.specs.declared.step.Step.TheVariants as steps
 use Rattle.front.specs.Fronting.{Forgets, IsFrontSound, TakesBytes}
 use Rattle.front.specs.Rounds.{IsRound, MakesTurn}
 use Rattle.front.specs.Served.{IsServed, ServerTurn}
-use Rattle.front.specs.Serving.{fresh}
+use Rattle.driver_sockets.specs.Serving.{fresh}
 use Rattle.front.specs.declared.front.Front.{Front}
-use Rattle.front.specs.declared.socket.Socket.{Socket}
+use Rattle.driver_sockets.specs.declared.socket.Socket.{Socket}
 
 -- From one front to another, which is sound behind each step, and these frames are handed out, each
 -- with the number of its socket, in order.

@@ -17,22 +17,21 @@ use Rattle.drivers.specs.declared.plan.Plan.{Plan}
 use Rattle.drivers.specs.declared.server_info.ServerInfo.{ServerInfo}
 use Rattle.drivers.specs.declared.step.Step.{Step}
 use Rattle.server.specs.Streams.{connection_in}
-use Rattle.server.specs.Turn.{next_number}
 use Rattle.server.specs.View.{out_of, state}
 use Rattle.server.specs.declared.turn.Core.{Core}
 use Rattle.server.specs.declared.turn.TurnFault.{TurnFault}
 use Rattle.server.specs.declared.turn.TurnOut.{TurnOut}
-use Rattle.front.specs.Asking.{question_bytes}
-use Rattle.front.specs.Lending.{borrower, loan_at}
+use Rattle.driver_sockets.specs.Questions.{question_bytes}
+use Rattle.driver_sockets.specs.Lending.{borrower, loan_at}
 use Rattle.front.specs.OneSocket.{is_long}
-use Rattle.front.specs.Replying.{long_reply, question_by, told}
+use Rattle.driver_sockets.specs.Replying.{long_reply, next_number, question_by, told}
 use Rattle.front.specs.Unread.{HoldsUnread}
-use Rattle.front.specs.declared.job.Job.{Job}
-use Rattle.front.specs.declared.job.Question.{Question}
-use Rattle.front.specs.declared.job.Stage.{Stage}
-use Rattle.front.specs.declared.job.Stage.TheVariants as stages
-use Rattle.front.specs.declared.lending.Loan.{Loan}
-use Rattle.front.specs.declared.socket.Socket.{Socket}
+use Rattle.driver_sockets.specs.declared.job.Job.{Job}
+use Rattle.driver_sockets.specs.declared.job.Question.{Question}
+use Rattle.driver_sockets.specs.declared.job.Stage.{Stage}
+use Rattle.driver_sockets.specs.declared.job.Stage.TheVariants as stages
+use Rattle.driver_sockets.specs.declared.lending.Loan.{Loan}
+use Rattle.driver_sockets.specs.declared.socket.Socket.{Socket}
 
 -- ---- a message of a socket
 

@@ -1,43 +1,20 @@
 -- What a turn asks, of which sockets, and why one that waits isn't asked for.
-use Rattle.std.specs.Prelude.{◌≡◌, ◌⊎◌, ◌<◌, ℕ, ◌+◌, ◌/◌, ◌%◌, ◌^◌, pos, true, false, nat_lt, List}
-use Rattle.std.specs.Prelude.{[], ◌∷◌, length, slice_index_or, is_none, if◌then◌else◌, Option, Some}
+use Rattle.std.specs.Prelude.{◌≡◌, ◌⊎◌, ◌<◌, ℕ, ◌+◌, ◌%◌, true, false, List}
+use Rattle.std.specs.Prelude.{[], ◌∷◌, length, slice_index_or, is_none, Option, Some}
 use Rattle.std.specs.List.{Contains, list_any}
-use Rattle.driver_replies.specs.declared.fresh_ids.FreshIds.{FreshIds}
 use Rattle.drivers.specs.declared.server_info.ServerInfo.{ServerInfo}
 use Rattle.server.specs.ServerState.{ServerState}
 use Rattle.server.specs.View.{state}
-use Rattle.front.specs.Alone.{is_alone}
-use Rattle.front.specs.Asking.{wanted, AsksWanted}
+use Rattle.driver_sockets.specs.Alone.{is_alone}
+use Rattle.driver_sockets.specs.Info.{after_ids, info_of}
+use Rattle.driver_sockets.specs.Questions.{wanted}
+use Rattle.front.specs.Asking.{AsksWanted}
 use Rattle.front.specs.OneSocket.{RunsOut, Seat, Serves}
-use Rattle.front.specs.Serving.{waits}
+use Rattle.driver_sockets.specs.Serving.{waits}
 use Rattle.front.specs.declared.front.Front.{Front}
-use Rattle.front.specs.declared.lending.Loan.{Loan}
-use Rattle.front.specs.declared.open_cursors.OpenCursor.{OpenCursor}
-use Rattle.front.specs.declared.socket.Socket.{Socket}
-
--- ---- what is known of the server for a message, by the milliseconds since 1970 and by where
--- object ids begin that no message before it has
-
-abbrev pub below_or_zero : ℕ → ℕ → ℕ
-below_or_zero limit n = if nat_lt n limit then n else 0
-
-abbrev pub ids_of : ℕ → ℕ → FreshIds
-ids_of time next_id =
-    record { seconds = below_or_zero (2 ^ 32) (time / 1000); number = next_id }
-
-abbrev pub info_of : ℕ → ℕ → ℕ → ServerInfo
-info_of number time next_id = record {
-  most_document_bytes = pos 65535;
-  most_message_bytes = pos 1048576;
-  connection = pos (below_or_zero (2 ^ 31) number);
-  time = pos time;
-  ids = ids_of time next_id;
-}
-
--- Where those of the next message begin: a message has more of them than it has room for
--- statements.
-abbrev pub after_ids : ℕ → ℕ
-after_ids next_id = (next_id + 262144) % 2 ^ 64
+use Rattle.driver_sockets.specs.declared.lending.Loan.{Loan}
+use Rattle.driver_sockets.specs.declared.open_cursors.OpenCursor.{OpenCursor}
+use Rattle.driver_sockets.specs.declared.socket.Socket.{Socket}
 
 -- ---- what is asked
 

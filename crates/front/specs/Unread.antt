@@ -12,9 +12,9 @@ use Rattle.server.specs.Streams.{connection_in}
 use Rattle.server.specs.View.{state}
 use Rattle.server.specs.declared.connection.Connection.{Connection}
 use Rattle.server.specs.declared.turn.Core.{Core}
-use Rattle.front.specs.Asking.{question_bytes}
-use Rattle.front.specs.Lending.{loan_at}
-use Rattle.front.specs.declared.lending.Loan.{Loan}
+use Rattle.driver_sockets.specs.Questions.{question_bytes}
+use Rattle.driver_sockets.specs.Lending.{loan_at}
+use Rattle.driver_sockets.specs.declared.lending.Loan.{Loan}
 
 -- These bytes stand unread on a connection, and no fault has closed it.
 pub record HoldsUnread (bytes : List ℕ) (connection : Connection) : Type 0 where

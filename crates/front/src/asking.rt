@@ -1,20 +1,16 @@
-//! Commands for the server, as frames, and its replies.
+//! Commands for the server, as frames.
 
-ghost use Rattle.std.specs.Prelude.{◌≡◌, drop, true, Ok, Err, IfOk, OnOk, OnErr};
-ghost use Rattle.op_msg.specs.Request.{document_in};
-ghost use Rattle.drivers.specs.Answering.{kill_command};
+ghost use Rattle.std.specs.Prelude.{◌≡◌, true, Err, OnOk, OnErr};
 ghost use Rattle.server.specs.Durable.{is_stopped, IsSound};
 ghost use Rattle.server.specs.View.{state};
 ghost use Rattle.front.specs.Asking.{IsAskedOn};
 ghost use Rattle.front.specs.OneSocket.{is_long};
 
-use crate::open_cursors::OpenCursor;
-use bson::{Array, BuildFault, Document, MESSAGE_LIMIT, NoMemory, Value, decode};
+use bson::{Document, MESSAGE_LIMIT};
 use engine::ConnId;
 use op_msg::{FRAME_BYTES, reply};
 use page::Disk;
 use server::Core;
-use std::alloc::{AllocError, Global};
 
 /// The most bytes of a command.
 const MOST_BYTES: usize = MESSAGE_LIMIT - FRAME_BYTES as usize;
@@ -53,62 +49,4 @@ pub(crate) fn ask<D: Disk>(
         Ok(()) => Ok(()),
         Err(_) => Err(NotAsked::Memory),
     }
-}
-
-/// The document of a reply of the server.
-pub(crate) fn document_of(alloc: Global, frame: &[u8]) -> Result<Document, NoMemory>
-    ensures { IfOk result (λ d. document_in (drop 21 frame.now) ≡ Ok d) }
-{
-    let Some(body) = frame.get(FRAME_BYTES as usize..) else {
-        return Err(AllocError);
-    };
-    match decode(alloc, body) {
-        Ok((document, _)) => Ok(document),
-        Err(_) => Err(AllocError),
-    }
-}
-
-/// The number of the cursor that a reply leaves open.
-pub(crate) fn cursor_left(reply: &Document) -> Option<i64> {
-    let Some(Value::Document(cursor)) = reply.get("cursor") else {
-        return None;
-    };
-    match cursor.get("id") {
-        Some(Value::Int64(0)) => None,
-        Some(Value::Int64(id)) => Some(*id),
-        _ => None,
-    }
-}
-
-/// The database and the collection that a reply's cursor is about.
-pub(crate) fn namespace_of(reply: &Document) -> Option<(&str, &str)> {
-    let Some(Value::Document(cursor)) = reply.get("cursor") else {
-        return None;
-    };
-    match cursor.get("ns") {
-        Some(Value::String(namespace)) => namespace.as_str().split_once('.'),
-        _ => None,
-    }
-}
-
-/// Whether a reply says that the cursor of a command has ended, or is not there.
-pub(crate) fn has_ended(reply: &Document) -> bool {
-    match reply.get("code") {
-        Some(Value::Int32(code)) => *code == 43,
-        _ => reply.get("cursorsKilled").is_some() || reply.get("cursor").is_some(),
-    }
-}
-
-/// The command that ends a cursor.
-pub(crate) fn end_command(alloc: Global, cursor: &OpenCursor) -> Result<Document, BuildFault>
-    ensures { IfOk result
-        (λ d. d ≡ kill_command cursor.now.database cursor.now.collection cursor.now.id) }
-{
-    let mut ids = Array::new(alloc);
-    ids.push(Value::Int64(cursor.id))?;
-    let mut command = Document::new(alloc);
-    command.push("killCursors", Value::String(cursor.collection.copy()?))?;
-    command.push("cursors", Value::Array(ids))?;
-    command.push("$db", Value::String(cursor.database.copy()?))?;
-    Ok(command)
 }

@@ -1,28 +1,23 @@
 //! Sockets of drivers before a server.
 
+ghost use Rattle.std.specs.Prelude.{◌≡◌, ◌+◌, ◌<◌, ◌^◌, [], OnOk, true, false, None, Some, length, map};
+ghost use Rattle.sockets.specs.Handing.{Hands, Closes};
 ghost use Rattle.server.specs.Durable.{is_stopped, IsSound};
 ghost use Rattle.server.specs.View.{frames_in, state};
-ghost use Rattle.front.specs.Turning.{desk, AsksAlone, AsksInTurn, ServesOne};
-ghost use Rattle.std.specs.Prelude.{◌≡◌, ◌+◌, ◌<◌, ◌≤◌, ◌^◌, [], OnOk, true, false, None, Some, length, map, max};
-ghost use Rattle.sockets.specs.Handing.{Hands, Closes};
-ghost use Rattle.front.specs.Tying.{AreTied};
-ghost use Rattle.front.specs.Alone.{IsNobodyAlone, NobodyBetween, StandsAlone};
-ghost use Rattle.front.specs.Unread.{AreAtRest, HasTurned, HaveReplies, IsBehind};
-ghost use Rattle.front.specs.Fronting.{frame_to, answers_from, closing, closed_from, answered};
-ghost use Rattle.front.specs.Serving.{HaveGrown, OthersStay};
+ghost use Rattle.driver_sockets.specs.Alone.{IsNobodyAlone, NobodyBetween, StandsAlone};
+ghost use Rattle.driver_sockets.specs.Serving.{answered, OthersStay};
+ghost use Rattle.driver_sockets.specs.Tying.{AreTied};
+ghost use Rattle.front.specs.Fronting.{frame_to, answers_from, closing, closed_from};
 ghost use Rattle.front.specs.Rounds.{EndsSome, MakesTurn, OnlyTakes, TakesEach, floor};
+ghost use Rattle.front.specs.Turning.{desk, AsksAlone, AsksInTurn, ServesOne};
+ghost use Rattle.front.specs.Unread.{AreAtRest, HasTurned, HaveReplies, IsBehind};
 
-use crate::info::next_info;
-use crate::lending::Lending;
-use crate::open_cursors::OpenCursors;
 use crate::serving::{end_cursor, serve_socket, take_reply};
-use crate::socket::Socket;
-use bson::NoMemory;
+use driver_sockets::{Lending, OpenCursors, Socket, grow, next_info};
 use engine::ConnId;
 use page::Disk;
 use server::{Core, TurnFault};
 use sockets::{NotTaken, Outlet, Service, Stopped};
-use std::alloc::Global;
 use std::mem;
 use std::rt::Clock;
 
@@ -327,19 +322,6 @@ impl<C: Clock + Drop, D: Disk + Drop> Service for Front<C, D> {
             drop(mem::replace(&mut self.sockets[connection], Socket::new(alloc)));
         }
     }
-}
-
-/// Puts sockets of which nothing has come behind those that there are, up to that of a number.
-fn grow(alloc: Global, sockets: &mut Vec<Socket>, number: usize) -> Result<(), NoMemory>
-    requires { number < 1024 }
-    ensures grown { HaveGrown sockets.old.items sockets.new.items }
-    ensures most { length sockets.new.items ≤ max (length sockets.old.items) (number + 1) }
-    ensures there { OnOk result (number < length sockets.new.items) }
-{
-    'numbers: for _ in sockets.len()..number + 1 {
-        sockets.push(Socket::new(alloc))?;
-    }
-    Ok(())
 }
 
 /// Where object ids begin: where 16 messages a millisecond since 1970 would lead.

@@ -4,12 +4,7 @@
 
 mod asking;
 mod front;
-mod info;
-mod job;
 pub mod laws;
-mod lending;
-mod open_cursors;
 mod serving;
-mod socket;
 
 pub use front::Front;

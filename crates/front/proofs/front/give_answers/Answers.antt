@@ -1,7 +1,7 @@
 use Rattle.std.proofs.Common.{◌≡◌, ◌<◌, ℕ, suc, ◌+◌, length, List, take, drop, set, map, ap, sym, subst, ◌∙◌, arith}
 use Rattle.sockets.specs.Handing.{Hands}
-use Rattle.front.specs.Fronting.{answered}
-use Rattle.front.proofs.EachLemmas.{one_more}
+use Rattle.driver_sockets.specs.Serving.{answered}
+use Rattle.driver_sockets.proofs.EachLemmas.{one_more}
 use Rattle.front.proofs.HandingLemmas.{hands_on, answers_at}
 use Rattle.front.proofs.front.give_answers.Goals as goal
 

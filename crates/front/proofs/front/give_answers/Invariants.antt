@@ -1,6 +1,7 @@
 use Rattle.std.proofs.Common.{◌≡◌, map, take, drop}
 use Rattle.sockets.specs.Handing.{Hands}
-use Rattle.front.specs.Fronting.{answers_from, answered}
+use Rattle.front.specs.Fronting.{answers_from}
+use Rattle.driver_sockets.specs.Serving.{answered}
 use Rattle.front.proofs.front.give_answers.Given as goal
 
 abbrev pub invariant-sockets : goal.invariant-sockets

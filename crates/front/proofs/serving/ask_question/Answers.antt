@@ -1,4 +1,4 @@
-use Rattle.front.proofs.LoanLemmas.{none_if}
+use Rattle.driver_sockets.proofs.LoanLemmas.{none_if}
 use Rattle.front.proofs.UnreadLemmas.{behind_asked}
 use Rattle.front.proofs.serving.ask_question.Goals as goal
 

@@ -1,5 +1,5 @@
 use Rattle.front.proofs.AskingLemmas.{ends_first, ends_on}
-use Rattle.front.proofs.LoanLemmas.{none_if}
+use Rattle.driver_sockets.proofs.LoanLemmas.{none_if}
 use Rattle.front.proofs.UnreadLemmas.{behind_asked}
 use Rattle.front.proofs.serving.end_cursor.Goals as goal
 

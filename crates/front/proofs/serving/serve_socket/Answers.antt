@@ -2,7 +2,7 @@ use Rattle.std.proofs.Common.{◌∙◌, sym}
 use Rattle.front.specs.OneSocket.{seat}
 use Rattle.front.proofs.AskingLemmas.{asked_wanted}
 use Rattle.front.proofs.OneSocketLemmas.{serves_held, serves_on}
-use Rattle.front.proofs.ReplyingLemmas.{on_ok}
+use Rattle.driver_sockets.proofs.ReplyingLemmas.{on_ok}
 use Rattle.front.proofs.serving.serve_socket.Goals as goal
 
 pub returns-clause-wanted : goal.returns-clause-wanted

@@ -1,7 +1,7 @@
 use Rattle.std.proofs.Common.{◌≡◌, ap, inl}
-use Rattle.front.specs.Lending.{borrower}
-use Rattle.front.specs.Replying.{closed, IsClosed}
-use Rattle.front.proofs.ReplyingLemmas.{becomes_more, becomes_same, on_err, on_ok, takes_document}
+use Rattle.driver_sockets.specs.Lending.{borrower}
+use Rattle.driver_sockets.specs.Replying.{closed, IsClosed}
+use Rattle.driver_sockets.proofs.ReplyingLemmas.{becomes_more, becomes_same, on_err, on_ok, takes_document}
 use Rattle.front.proofs.UnreadLemmas.{turned_ended}
 use Rattle.front.proofs.serving.take_reply.Goals as goal
 

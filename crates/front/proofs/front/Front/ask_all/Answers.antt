@@ -1,7 +1,7 @@
 use Rattle.std.proofs.Common.{rules, ℕ, Option, ◌∙◌, length, refl, sym, subst, arith}
 use Rattle.server.specs.Durable.{is_stopped}
-use Rattle.front.specs.Alone.{StandsAlone}
-use Rattle.front.proofs.AloneLemmas.{between_turn}
+use Rattle.driver_sockets.specs.Alone.{StandsAlone}
+use Rattle.driver_sockets.proofs.AloneLemmas.{between_turn}
 use Rattle.front.proofs.TurningLemmas.{later_stay, served_more, served_none, served_past, turn_behind, turn_full, turn_last, turn_whole}
 use Rattle.front.proofs.front.Front.ask_all.Goals as goal
 

@@ -1,10 +1,10 @@
 use Rattle.std.proofs.Common.{◌≡◌, ◌≤◌, ◌<◌, ◌+◌, ◌%◌, ℕ, None, get_or, length}
 use Rattle.server.specs.Durable.{is_stopped}
-use Rattle.front.specs.Alone.{StandsAlone}
+use Rattle.driver_sockets.specs.Alone.{StandsAlone}
 use Rattle.front.specs.Turning.{desk}
-use Rattle.front.specs.Tying.{AreTied}
+use Rattle.driver_sockets.specs.Tying.{AreTied}
 use Rattle.front.specs.Unread.{IsBehind}
-use Rattle.front.specs.declared.socket.Socket.{Socket}
+use Rattle.driver_sockets.specs.declared.socket.Socket.{Socket}
 use Rattle.front.proofs.TurningLemmas.{HaveServed}
 use Rattle.front.proofs.front.Front.ask_all.Given as goal
 

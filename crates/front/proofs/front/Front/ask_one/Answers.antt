@@ -1,6 +1,6 @@
-use Rattle.front.proofs.AloneLemmas.{between_asked}
+use Rattle.driver_sockets.proofs.AloneLemmas.{between_asked}
 use Rattle.front.proofs.TurningLemmas.{others_set, serves_one}
-use Rattle.front.proofs.TyingLemmas.{tied_step}
+use Rattle.driver_sockets.proofs.TyingLemmas.{tied_step}
 use Rattle.front.proofs.front.Front.ask_one.Goals as goal
 
 pub returns-then-asks_alone-clause-tied : goal.returns-then-asks_alone-clause-tied

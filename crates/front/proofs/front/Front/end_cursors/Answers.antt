@@ -1,7 +1,7 @@
 use Rattle.std.proofs.Common.{◌+◌, refl, ap, arith}
 use Rattle.front.specs.declared.front.Front.{Front}
 use Rattle.front.proofs.RoundLemmas.{ends_more, ends_still}
-use Rattle.front.proofs.TyingLemmas.{tied_to_none}
+use Rattle.driver_sockets.proofs.TyingLemmas.{tied_to_none}
 use Rattle.front.proofs.front.Front.end_cursors.Goals as goal
 
 pub returns-then-not-ended-clause-tied : goal.returns-then-not-ended-clause-tied

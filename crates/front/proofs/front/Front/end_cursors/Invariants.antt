@@ -1,8 +1,8 @@
 use Rattle.std.proofs.Common.{◌≡◌}
-use Rattle.front.specs.Alone.{StandsAlone}
+use Rattle.driver_sockets.specs.Alone.{StandsAlone}
 use Rattle.front.specs.Rounds.{EndsEach}
 use Rattle.front.specs.Turning.{desk}
-use Rattle.front.specs.Tying.{AreTied}
+use Rattle.driver_sockets.specs.Tying.{AreTied}
 use Rattle.front.specs.Unread.{IsBehind}
 use Rattle.front.proofs.front.Front.end_cursors.Given as goal
 

@@ -1,4 +1,4 @@
-use Rattle.front.proofs.TyingLemmas.{tied_new}
+use Rattle.driver_sockets.proofs.TyingLemmas.{tied_new}
 use Rattle.front.proofs.UnreadLemmas.{behind_new}
 use Rattle.front.proofs.front.Front.new.Goals as goal
 

@@ -4,9 +4,9 @@ use Rattle.std.proofs.lemmas.List.{drop_all}
 use Rattle.server.specs.View.{frames_in, state}
 use Rattle.front.specs.Rounds.{Floor, TakesEach, TakesOne, floor}
 use Rattle.front.specs.declared.front.Front.{Front}
-use Rattle.front.proofs.AloneLemmas.{stands_written}
+use Rattle.driver_sockets.proofs.AloneLemmas.{stands_written}
 use Rattle.front.proofs.RoundLemmas.{left_on, takes_on, takes_one}
-use Rattle.front.proofs.TyingLemmas.{tied_written}
+use Rattle.driver_sockets.proofs.TyingLemmas.{tied_written}
 use Rattle.front.proofs.UnreadLemmas.{all_rest}
 use Rattle.front.proofs.front.Front.take_replies.Goals as goal
 

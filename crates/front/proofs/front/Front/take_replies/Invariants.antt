@@ -1,8 +1,8 @@
 use Rattle.std.proofs.Common.{drop}
 use Rattle.server.specs.View.{frames_in}
-use Rattle.front.specs.Alone.{StandsAlone}
+use Rattle.driver_sockets.specs.Alone.{StandsAlone}
 use Rattle.front.specs.Rounds.{Floor, OnlyTakes, TakesEach, floor}
-use Rattle.front.specs.Tying.{AreTied}
+use Rattle.driver_sockets.specs.Tying.{AreTied}
 use Rattle.front.specs.Unread.{HasTurned, HaveReplies}
 use Rattle.front.proofs.front.Front.take_replies.Given as goal
 

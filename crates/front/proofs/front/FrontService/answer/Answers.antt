@@ -1,9 +1,9 @@
 use Rattle.std.proofs.Common.{refl, sym, ap, ◌∙◌}
 use Rattle.front.specs.Fronting.{answers_from, closed_from}
-use Rattle.front.proofs.AloneLemmas.{stands_given}
-use Rattle.front.proofs.ReplyingLemmas.{when_ok}
+use Rattle.driver_sockets.proofs.AloneLemmas.{stands_given}
+use Rattle.driver_sockets.proofs.ReplyingLemmas.{when_ok}
 use Rattle.front.proofs.RoundLemmas.{hands_out}
-use Rattle.front.proofs.TyingLemmas.{tied_given}
+use Rattle.driver_sockets.proofs.TyingLemmas.{tied_given}
 use Rattle.front.proofs.front.FrontService.answer.Goals as goal
 
 pub returns-clause-sound : goal.returns-clause-sound

@@ -1,6 +1,6 @@
 use Rattle.std.proofs.Common.{rules, ◌<◌, ◌∙◌, length}
-use Rattle.front.proofs.AloneLemmas.{stands_ended}
-use Rattle.front.proofs.TyingLemmas.{tied_end, tied_over}
+use Rattle.driver_sockets.proofs.AloneLemmas.{stands_ended}
+use Rattle.driver_sockets.proofs.TyingLemmas.{tied_end, tied_over}
 use Rattle.front.proofs.UnreadLemmas.{behind_without}
 use Rattle.front.proofs.front.FrontService.forget.Goals as goal
 

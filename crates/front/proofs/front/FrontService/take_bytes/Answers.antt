@@ -1,10 +1,10 @@
 use Rattle.std.proofs.Common.{rules, ◌≡◌, ◌<◌, length, get_or, List, ℕ, sym, ap, ◌∙◌}
-use Rattle.front.specs.Alone.{has_begun}
-use Rattle.front.specs.Serving.{fed}
-use Rattle.front.specs.Tying.{is_asked}
-use Rattle.front.specs.declared.socket.Socket.{Socket}
-use Rattle.front.proofs.AloneLemmas.{stands_fed, stands_grown, stands_set}
-use Rattle.front.proofs.TyingLemmas.{tied_fed, tied_grown, tied_socket}
+use Rattle.driver_sockets.specs.Alone.{has_begun}
+use Rattle.driver_sockets.specs.Serving.{fed}
+use Rattle.driver_sockets.specs.Tying.{is_asked}
+use Rattle.driver_sockets.specs.declared.socket.Socket.{Socket}
+use Rattle.driver_sockets.proofs.AloneLemmas.{stands_fed, stands_grown, stands_set}
+use Rattle.driver_sockets.proofs.TyingLemmas.{tied_fed, tied_grown, tied_socket}
 use Rattle.front.proofs.front.FrontService.take_bytes.Goals as goal
 
 pub returns-in-Ok-clause-sound : goal.returns-in-Ok-clause-sound

@@ -1,0 +1,10 @@
+pub mod Lending
+pub mod Cursors
+pub mod Choosing
+pub mod Info
+pub mod Questions
+pub mod Laws
+pub mod Serving
+pub mod Tying
+pub mod Alone
+pub mod Replying

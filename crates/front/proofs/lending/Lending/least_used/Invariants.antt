@@ -1,6 +1,0 @@
-use Rattle.std.proofs.Common.{◌≡◌}
-use Rattle.front.specs.Lending.{least_used}
-use Rattle.front.proofs.lending.Lending.least_used.Given as goal
-
-abbrev pub invariant-numbers : goal.invariant-numbers
-invariant-numbers l = l.least ≡ least_used l.self.loans l.counts l.number

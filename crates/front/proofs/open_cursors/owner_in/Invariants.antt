@@ -1,6 +1,0 @@
-use Rattle.std.proofs.Common.{◌≡◌, drop}
-use Rattle.front.specs.Cursors.{owner_in}
-use Rattle.front.proofs.open_cursors.owner_in.Given as goal
-
-abbrev pub invariant-cursors : goal.invariant-cursors
-invariant-cursors l = owner_in l.id l.list ≡ owner_in l.id (drop l.number l.list)
