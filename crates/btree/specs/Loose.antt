@@ -11,6 +11,7 @@ pub data Load : Type 0 where
   value : Place → Load
   child : ℕ → Load
 
+-- what a page has at one key: a cell of a leaf, or a child of a branch
 pub record Slot : Type 0 where
   pub key : List ℕ
   pub load : Load

@@ -155,7 +155,7 @@ pub(crate) fn take_reply<D: Disk>(
         (borrower (loan_at lending.old.loans owner)) IsClosed sockets.new) }
 {
     let alloc = core.allocator();
-    let Some(loan) = lending.roll_back(owner) else {
+    let Some(loan) = lending.take_back(owner) else {
         return Ok(());
     };
     match read_reply(alloc, cursors, owner, loan, frame) {
