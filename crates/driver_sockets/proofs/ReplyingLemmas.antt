@@ -17,7 +17,8 @@ use Rattle.drivers.specs.declared.step.Step.TheVariants as steps
 use Rattle.bson.specs.Tree.{Pairs}
 use Rattle.op_msg.specs.Request.{document_in}
 use Rattle.driver_sockets.specs.Replying.{Becomes, Begins, BeginsWith, HasAnswer, IsAnswered, IsFramed, Starts, TakesDocument, TakesFrame, TakesReply}
-use Rattle.driver_sockets.specs.Replying.{WaitsOrCloses, closed, has_room, next_number, too_large}
+use Rattle.driver_sockets.specs.Replying.{WaitsOrCloses, closed, has_room, too_large}
+use Rattle.op_msg.specs.ReplyNumbers.{next_number}
 use Rattle.driver_sockets.specs.Tying.{is_asked}
 use Rattle.driver_sockets.specs.declared.job.Job.{Job}
 use Rattle.driver_sockets.specs.declared.socket.Socket.{Socket}

@@ -1,4 +1,5 @@
 -- What becomes of a socket's message: it is asked next, or its answer is ready, or it has none.
+use Rattle.op_msg.specs.ReplyNumbers.{next_number}
 use Rattle.std.specs.Prelude.{◌≡◌, ◌⊎◌, ◌<◌, ◌+◌, ℕ, Bool, true, false, nat_le, nat_lt, List}
 use Rattle.std.specs.Prelude.{length, drop, slice_index_or, option_map, Result, Ok, Err, Option}
 use Rattle.std.specs.Prelude.{Some, None, Vec, if◌then◌else◌}
@@ -51,10 +52,6 @@ told step = if has_room step then step else too_large
 abbrev pub IsFramed : {Z : Type 0} → Form → ℕ → ℕ → Step → Option (Vec ℕ Z) → Type 0
 IsFramed form number request step bytes =
     option_map (λ v. v.items) bytes ≡ framed form number request (told step)
-
--- the number of the next reply
-abbrev pub next_number : ℕ → ℕ
-next_number last = if nat_lt last 2147483647 then last + 1 else 1
 
 -- ---- a socket
 

@@ -6,7 +6,8 @@ ghost use Rattle.drivers.specs.Laws.{asked_by};
 ghost use Rattle.drivers.specs.Starting.{started};
 ghost use Rattle.driver_messages.specs.Incoming.{next_message};
 ghost use Rattle.driver_sockets.specs.Questions.{question_in, wanted, IsNoOther, pending, waiting};
-ghost use Rattle.driver_sockets.specs.Replying.{has_room, next_number, IsFramed, IsAnswered, question_by, Follows, Starts, TakesReply, Begins};
+ghost use Rattle.driver_sockets.specs.Replying.{has_room, IsFramed, IsAnswered, question_by, Follows, Starts, TakesReply, Begins};
+ghost use Rattle.op_msg.specs.ReplyNumbers.{next_number};
 ghost use Rattle.driver_sockets.specs.Replying.{closed, resting, long_reply, IsClosed, WaitsOrCloses};
 ghost use Rattle.driver_sockets.specs.Serving.{fresh, fed, waits, HaveGrown};
 ghost use Rattle.driver_sockets.specs.Tying.{is_asked};
@@ -17,6 +18,7 @@ ghost use Rattle.drivers.specs.AloneLaws.{is_later};
 use crate::job::{Job, Question, Stage};
 use bson::{Document, MESSAGE_LIMIT, NoMemory};
 use drivers::{Form, Incoming, Message, Plan, ServerInfo, Step, StreamFault, framed};
+use op_msg::next_number;
 use path::Refusal;
 use replies::refusal_document;
 use std::alloc::{AllocError, Global};
@@ -24,9 +26,6 @@ use std::mem;
 
 /// The most bytes of an answer's document.
 const MOST_BYTES: usize = MESSAGE_LIMIT - 36;
-/// The greatest number of a reply. After it comes 1.
-const LAST_REPLY: u32 = 2_147_483_647;
-
 /// A socket of a driver.
 pub struct Socket {
     /// Its bytes that no message has taken.
@@ -333,13 +332,6 @@ fn question_of(step: Step) -> Result<Question, Step>
         Step::Fail(reply) => Err(Step::Fail(reply)),
         Step::Silent => Err(Step::Silent),
     }
-}
-
-/// The number of the next reply.
-fn next_number(last: u32) -> u32
-    ensures { result ≡ next_number last }
-{
-    if last < LAST_REPLY { last + 1 } else { 1 }
 }
 
 /// Whether an answer has room in a message.

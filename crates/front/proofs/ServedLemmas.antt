@@ -17,7 +17,8 @@ use Rattle.drivers.specs.declared.server_info.ServerInfo.{ServerInfo}
 use Rattle.drivers.specs.declared.step.Step.{Step}
 use Rattle.drivers.specs.declared.step.Step.TheVariants as steps
 use Rattle.driver_sockets.specs.Replying.{Begins, Follows, GoesOn, HasAnswer, IsClosed, TakesReply, WaitsOrCloses}
-use Rattle.driver_sockets.specs.Replying.{closed, next_number, question_by, resting, to_ask, told}
+use Rattle.driver_sockets.specs.Replying.{closed, question_by, resting, to_ask, told}
+use Rattle.op_msg.specs.ReplyNumbers.{next_number}
 use Rattle.driver_sockets.specs.Questions.{waiting}
 use Rattle.front.specs.Served.{Worked, standing, answer_behind, messages_of, number_behind, last_number, answers_of, AreReplies, AllAreReplies, IsReplyTo}
 use Rattle.front.specs.Served.{HaveEnded, IsWorkedOn, Stand, IsServed, ServerTurn}

@@ -19,7 +19,8 @@ use Rattle.server.specs.ServerState.{ServerState, add_bytes, are_ascending, drop
 use Rattle.server.specs.Streams.{connection_in}
 use Rattle.server.specs.Taking.{fault_in}
 use Rattle.server.specs.Turn.{Call, Out, calls, call_at, connection_after, connection_at, connections_after, faults, frame_for, frame_unless, frames_of}
-use Rattle.server.specs.Turn.{front_if_open, front_of, next_number}
+use Rattle.server.specs.Turn.{front_if_open, front_of}
+use Rattle.op_msg.specs.ReplyNumbers.{next_number}
 use Rattle.server.specs.Turning.{TakesTurn}
 use Rattle.server.specs.View.{frames_in, out_of, state}
 use Rattle.server.specs.declared.connection.Connection.{Connection}

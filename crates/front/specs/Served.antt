@@ -24,7 +24,8 @@ use Rattle.server.specs.declared.turn.TurnOut.{TurnOut}
 use Rattle.driver_sockets.specs.Questions.{question_bytes}
 use Rattle.driver_sockets.specs.Lending.{borrower, loan_at}
 use Rattle.front.specs.OneSocket.{is_long}
-use Rattle.driver_sockets.specs.Replying.{long_reply, next_number, question_by, told}
+use Rattle.driver_sockets.specs.Replying.{long_reply, question_by, told}
+use Rattle.op_msg.specs.ReplyNumbers.{next_number}
 use Rattle.front.specs.Unread.{HoldsUnread}
 use Rattle.driver_sockets.specs.declared.job.Job.{Job}
 use Rattle.driver_sockets.specs.declared.job.Question.{Question}

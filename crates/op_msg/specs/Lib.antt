@@ -6,3 +6,4 @@ pub mod Request
 pub mod View
 pub mod Laws
 pub mod Rows
+pub mod ReplyNumbers

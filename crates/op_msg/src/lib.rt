@@ -6,11 +6,13 @@ mod first_message;
 mod frames;
 pub mod laws;
 mod pieces;
+mod reply_numbers;
 mod request;
 mod sections;
 mod writing;
 
 pub use fault::FrameFault;
 pub use frames::Frames;
+pub use reply_numbers::next_number;
 pub use request::{Head, Request, request_at_front};
 pub use writing::{FRAME_BYTES, reply, respell, spelled_reply};

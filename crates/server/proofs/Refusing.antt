@@ -11,7 +11,8 @@ use Rattle.op_msg.specs.Request.{reply_bytes, respelled}
 use Rattle.op_msg.proofs.Respelling.{respelled_frame}
 use Rattle.database_model.specs.Refusals.{refusal_reply}
 use Rattle.path.specs.declared.refusal.Refusal.TheVariants.{OutOfMemory, Full}
-use Rattle.server.specs.Turn.{Call, calls, frame_unless, frame_for, frames_of, refused_calls, refused_frames, next_number}
+use Rattle.server.specs.Turn.{Call, calls, frame_unless, frame_for, frames_of, refused_calls, refused_frames}
+use Rattle.op_msg.specs.ReplyNumbers.{next_number}
 use Rattle.server.specs.Taking.{full_body, respelled_frames, HaveRoom}
 use Rattle.server.specs.View.{frames_in}
 use Rattle.server.specs.declared.connection.Connection.{Connection}

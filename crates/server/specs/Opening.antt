@@ -20,5 +20,8 @@ pub record IsCoreOpened {D : Type 0} (history : D → History) (disk : D) (core 
     pub sound : IsSound history core
     pub engine : engines.IsEngineOpened history disk core.engine
     pub alone : state core
-        ≡ record { world = record new_world { collections = collections_of core }; connections =
-          [] }
+        ≡ record {
+          world = record new_world { collections = collections_of core };
+          connections =
+              [];
+        }

@@ -17,7 +17,8 @@ use Rattle.database_model.specs.Step.{Answers}
 use Rattle.path.specs.declared.refusal.Refusal.{Refusal}
 use Rattle.path.specs.declared.refusal.Refusal.TheVariants as refusals
 use Rattle.server.specs.Turn.{Call, Runs, WroteNone, calls, call_at, frames_of, front_of}
-use Rattle.server.specs.Turn.{refused_calls, refused_frames, taken_at, next_number, RunsOnAnyDisk}
+use Rattle.server.specs.Turn.{refused_calls, refused_frames, taken_at, RunsOnAnyDisk}
+use Rattle.op_msg.specs.ReplyNumbers.{next_number}
 use Rattle.server.specs.Turn.{IsCommitted, LeftAll, LeftCollections, WroteNoneOnAnyDisk}
 use Rattle.server.specs.declared.connection.Connection.{Connection}
 use Rattle.server.specs.declared.connection.Taken.{Taken}

@@ -6,6 +6,7 @@
 -- or undone. Cut, where the device failed in the commit: the world is the last step's, no reply is
 -- handed out, and no connection is closed. A message with moreToCome gets no reply, and replies
 -- that are handed out are numbered 1, 2, 3 and so on for each connection.
+use Rattle.op_msg.specs.ReplyNumbers.{next_number}
 use Rattle.std.specs.Prelude.{◌≡◌, ◌⊎◌, ℕ, ◌+◌, Bool, true, false, nat_lt, if◌then◌else◌, List, []}
 use Rattle.std.specs.Prelude.{◌∷◌, ◌++◌, length, Result, Ok, Err, Option, Some, None, OnErr}
 use Rattle.bson.specs.Tree.{Pairs}
@@ -56,10 +57,6 @@ fault_at connection (Err fault) = (connection.id, fault) ∷ []
 abbrev pub faults : List Connection → List (ℕ × FrameFault)
 faults [] = []
 faults (l ∷ ls) = fault_at l (front_of l) ++ faults ls
-
--- the number of the next reply
-abbrev pub next_number : ℕ → ℕ
-next_number last = if nat_lt last 2147483647 then last + 1 else 1
 
 -- a message that wants no reply draws no number
 abbrev pub number_after : Bool → ℕ → ℕ

@@ -4,10 +4,11 @@ ghost use Rattle.std.specs.Prelude.{◌≡◌, ◌≢◌, ◌<◌, ◌≤◌, Er
 ghost use Rattle.server.specs.ServerState.{feed_connections, drop_connection, find_connection, is_closed_in, place_in};
 ghost use Rattle.server.specs.Faults.{feed_fault_name};
 ghost use Rattle.server.specs.Taking.{IsTaken, closed_by, closed_connections, fault_beside};
-ghost use Rattle.server.specs.Turn.{is_waiting_in, next_number, front_of};
+ghost use Rattle.server.specs.Turn.{is_waiting_in, front_of};
+ghost use Rattle.op_msg.specs.ReplyNumbers.{next_number};
 
 use engine::ConnId;
-use op_msg::{FrameFault, Frames, Request};
+use op_msg::{FrameFault, Frames, Request, next_number};
 use std::cmp::Ordering;
 
 /// What came on a connection and was not taken, the number of the last reply, and the fault that closed it.
@@ -122,13 +123,6 @@ pub(crate) fn waits(connections: &[Connection], id: ConnId) -> bool
 pub(crate) enum Taken {
     Nothing,
     Call(u32, Request),
-}
-
-/// The number of the next reply.
-pub(crate) fn next_number(last: u32) -> u32
-    ensures { result ≡ next_number last }
-{
-    if last < 2_147_483_647 { last + 1 } else { 1 }
 }
 
 /// Takes the message at the front of an open connection, with the number of its reply. A fault stays where it is.

@@ -4,14 +4,15 @@ ghost use Rattle.std.specs.Prelude.{◌≡◌, ◌++◌, [], ◌∷◌, IfOk, On
 ghost use Rattle.database_model.specs.Refusals.{refusal_reply};
 ghost use Rattle.path.specs.declared.refusal.Refusal.TheVariants.{OutOfMemory};
 ghost use Rattle.op_msg.specs.Request.{head_of, reply_bytes};
-ghost use Rattle.server.specs.Turn.{front_of, faults, fault_at, frame_unless, next_number, refused_frames};
+ghost use Rattle.server.specs.Turn.{front_of, faults, fault_at, frame_unless, refused_frames};
+ghost use Rattle.op_msg.specs.ReplyNumbers.{next_number};
 ghost use Rattle.server.specs.Taking.{refused_at, fault_in, faults_in, HaveRoom, respelled_frames};
 ghost use Rattle.server.specs.View.{frames_in};
 
-use crate::connection::{Connection, next_number};
+use crate::connection::Connection;
 use bson::NoMemory;
 use engine::{ConnId, full_bytes, out_of_memory_bytes};
-use op_msg::{FrameFault, Head, respell, spelled_reply};
+use op_msg::{FrameFault, Head, next_number, respell, spelled_reply};
 use std::alloc::Global;
 
 /// The frames that a turn hands out if it is undone for want of memory, the connections that it closes, and for each connection
