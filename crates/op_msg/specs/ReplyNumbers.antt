@@ -1,5 +1,5 @@
--- The numbers that a server gives its replies (requestID): each is one more than the last, and 1 comes
--- behind the greatest int32.
+-- The numbers that a server gives its replies (`requestID` of the message header): each is one more
+-- than the last, and 1 comes behind the greatest int32.
 use Rattle.std.specs.Prelude.{ℕ, ◌+◌, if◌then◌else◌, nat_lt}
 
 -- the number of the next reply
