@@ -2,8 +2,8 @@
 use Rattle.std.proofs.Common.{◌≡◌, inl, inr, false, List, Result, Ok, Err, refl, sym, ◌∙◌, arith}
 use Rattle.std.specs.Prelude.{MatchResult}
 use Rattle.page.specs.History.{History, KeepsWord}
-use Rattle.btree.specs.Store.{Frame}
-use Rattle.btree.proofs.StoreLemmas.{grows_itself, grows_trans}
+use Rattle.tree_model.specs.Store.{Frame}
+use Rattle.tree_model.proofs.StoreLemmas.{grows_itself, grows_trans}
 use Rattle.path.specs.declared.refusal.Refusal.{Refusal}
 use Rattle.path.specs.declared.refusal.Refusal.TheVariants as refusals
 use Rattle.entries.specs.LawfulState.{IsLawfulState}

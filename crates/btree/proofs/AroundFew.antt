@@ -3,12 +3,12 @@ use Rattle.std.proofs.Common.{◌≡◌, ℕ, ◌+◌, ◌-◌, ◌*◌, ◌<◌
 use Rattle.std.proofs.Common.{arith, inl, inr}
 use Rattle.page.specs.Content.{Pivot, IsBranch}
 use Rattle.btree.specs.declared.node.LooseNode.{LooseNode}
-use Rattle.btree.specs.declared.pages.TreeFault.{TreeFault}
+use Rattle.tree_model.specs.declared.pages.TreeFault.{TreeFault}
 use Rattle.btree.specs.Few.{AreFewSettled, AreNotSettled, EndsFew, EndsFewOrOne, EndsSettled, IsFew, IsFewOrOne, MakesUpTo}
-use Rattle.btree.specs.Keys.{Each}
+use Rattle.tree_model.specs.Keys.{Each}
 use Rattle.btree.specs.Loose.{IsSlot, Slot, pivot_slot, slots_size, under_key}
 use Rattle.btree.specs.OneChild.{slots_between}
-use Rattle.btree.specs.Store.{Store}
+use Rattle.tree_model.specs.Store.{Store}
 use Rattle.btree.specs.Turn.{NodeModel, model_in}
 use Rattle.btree.proofs.AroundLemmas.{between_long, between_split, between_whole}
 use Rattle.btree.proofs.FewParts.{both_size, branch_few}

@@ -4,20 +4,21 @@ use Rattle.std.proofs.Common.{Result, Ok, Err, refl, sym, ap, ◌∙◌, subst, 
 use Rattle.page.specs.ChildPage.{exchanged}
 use Rattle.page.specs.Content.{Pivot}
 use Rattle.btree.specs.declared.node.LooseNode.{LooseNode}
-use Rattle.btree.specs.declared.pages.TreeFault.{TreeFault}
+use Rattle.tree_model.specs.declared.pages.TreeFault.{TreeFault}
 use Rattle.btree.specs.Change.{IsBehind}
-use Rattle.btree.specs.Keys.{Each, Entry, IsBetween, IsNotUnder, times}
+use Rattle.tree_model.specs.Keys.{Each, Entry, IsBetween, IsNotUnder, times}
 use Rattle.btree.specs.Loose.{IsSpread, IsSlot, Slot, pivot_slot, first_or, pair_slot, slot_keys, slots_of, subtree_slot, under_key}
 use Rattle.btree.specs.OneChild.{IsAmid, IsAround, slots_between}
-use Rattle.btree.specs.Store.{Frame, HasCause, Store}
-use Rattle.btree.specs.Tree.{Body, pivot_of}
-use Rattle.btree.specs.Turn.{AreTurned, IsHeld, IsTurned, IsUpTo, NodeModel, model_in}
+use Rattle.tree_model.specs.Store.{Frame, HasCause, Store}
+use Rattle.tree_model.specs.Tree.{Body, pivot_of}
+use Rattle.tree_model.specs.Reach.{AreTurned}
+use Rattle.btree.specs.Turn.{IsHeld, IsTurned, IsUpTo, NodeModel, model_in}
 use Rattle.btree.proofs.ChangingLemmas.{behind_later, turned_on}
 use Rattle.btree.proofs.EndLemmas.{drop_here, take_here, within_up_to}
 use Rattle.btree.proofs.HeldLemmas.{IsTurn, glue_held, held_later}
 use Rattle.btree.proofs.JoinLemmas.{up_to_trans}
-use Rattle.btree.proofs.KeyLemmas.{not_under_itself}
-use Rattle.btree.proofs.ListLemmas.{each_back, long_append, map_append, map_map, take_more, times_append}
+use Rattle.tree_model.proofs.KeyLemmas.{not_under_itself}
+use Rattle.tree_model.proofs.ListLemmas.{each_back, long_append, map_append, map_map, take_more, times_append}
 use Rattle.btree.proofs.LooseLemmas.{map_take, take_drop}
 use Rattle.btree.proofs.CuttingLemmas.{map_drop}
 use Rattle.btree.proofs.OneChildLemmas.{behind_glued, same_held}

@@ -8,11 +8,11 @@ use Rattle.std.specs.List.{AllByRecursion}
 use Rattle.std.specs.Ordering.{is_lt}
 use Rattle.page.specs.ChildPage.{exchanged}
 use Rattle.page.specs.Content.{Pivot, IsPivot, IsBranch, pivot_keys, pivot_size, pivots_size, is_below, rise, rise_above, total}
-use Rattle.btree.specs.Keys.{IsPast, IsUnder, IsWithin}
+use Rattle.tree_model.specs.Keys.{IsPast, IsUnder, IsWithin}
 use Rattle.btree.specs.Loose.{GoBehind, Slot, pivot_slot, slots_size}
 use Rattle.btree.proofs.FewParts.{pivots_total}
 use Rattle.btree.proofs.InPageLemmas.{both_true}
-use Rattle.btree.proofs.ListLemmas.{long_append, long_map, map_append}
+use Rattle.tree_model.proofs.ListLemmas.{long_append, long_map, map_append}
 use Rattle.btree.proofs.LooseLemmas.{take_drop}
 use Rattle.btree.proofs.PartLemmas.{behind_pivots}
 

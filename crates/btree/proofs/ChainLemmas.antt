@@ -3,14 +3,14 @@ use Rattle.std.proofs.Common.{◌≡◌, ℕ, zero, suc, ◌+◌, ◌-◌, ◌*�
 use Rattle.std.proofs.Common.{ap, ◌∙◌, subst, arith, append_assoc, append-nil, length-drop, length-take}
 use Rattle.page.specs.declared.page_content.PageContent.{PageContent}
 use Rattle.page.specs.declared.page_content.PageContent.TheVariants as P
-use Rattle.btree.specs.View.{content_in}
+use Rattle.tree_model.specs.View.{content_in}
 use Rattle.page.specs.Content.{inline, spilled, Content, chain}
-use Rattle.btree.specs.Keys.{Pair, times}
-use Rattle.btree.specs.Store.{Store, Frame, IsAt, IsMade, IsRetired, IsSame}
-use Rattle.btree.specs.Tree.{HasLinks, HasChain, next_of, place_of}
-use Rattle.btree.specs.Calls.{IsChained, AreRetired}
-use Rattle.btree.proofs.ListLemmas.{times_append}
-use Rattle.btree.proofs.StoreLemmas.{links_kept}
+use Rattle.tree_model.specs.Keys.{Pair, times}
+use Rattle.tree_model.specs.Store.{Store, Frame, IsAt, IsMade, IsRetired, IsSame}
+use Rattle.tree_model.specs.Tree.{HasLinks, HasChain, next_of, place_of}
+use Rattle.tree_model.specs.Calls.{IsChained, AreRetired}
+use Rattle.tree_model.proofs.ListLemmas.{times_append}
+use Rattle.tree_model.proofs.StoreLemmas.{links_kept}
 
 -- the bytes that were read, and those that are left with their pages
 pub record IsRead (s : Store) (value bytes : List ℕ) (left page : ℕ) : Type 0 where

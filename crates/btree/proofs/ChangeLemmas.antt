@@ -1,9 +1,9 @@
 -- A map after edits, in parts.
 use Rattle.std.proofs.Common.{◌≡◌, ℕ, List, [], ◌∷◌, ◌++◌, true, false, refl, sym, ap, ◌∙◌, append_assoc, append-nil}
 use Rattle.std.specs.Ordering.{is_lt}
-use Rattle.btree.specs.Keys.{Entry, Edit, Each, IsUnder, IsNotUnder, key_cmp, keep_if, before, behind, entries_at, edit_map, change}
-use Rattle.btree.proofs.KeyLemmas.{not_both}
-use Rattle.btree.proofs.ListLemmas.{each_map}
+use Rattle.tree_model.specs.Keys.{Entry, Edit, Each, IsUnder, IsNotUnder, key_cmp, keep_if, before, behind, entries_at, edit_map, change}
+use Rattle.tree_model.proofs.KeyLemmas.{not_both}
+use Rattle.tree_model.proofs.ListLemmas.{each_map}
 use Rattle.btree.proofs.ScanLemmas.{not_less}
 
 before_append : (key : List ℕ) (xs ys : List Entry) → before key (xs ++ ys) ≡ before key xs ++ before key ys

@@ -1,21 +1,22 @@
 -- A change from a page down.
 use Rattle.std.proofs.Common.{◌≡◌, ℕ, zero, suc, ◌-◌, ◌<◌, ◌≤◌, drop, get_or, List, [], ◌∷◌, ◌++◌, length, map, Option, Some, None, Result, Ok, Err, refl, sym}
 use Rattle.std.proofs.Common.{ap, ◌∙◌, subst, arith, inl, inr, append-nil}
-use Rattle.btree.specs.declared.editing.Edit.{Edit as ProgramEdit}
+use Rattle.tree_model.specs.declared.edit.Edit.{Edit as ProgramEdit}
 use Rattle.btree.specs.declared.node.LooseNode.{LooseNode}
-use Rattle.btree.specs.declared.pages.TreeFault.{TreeFault}
+use Rattle.tree_model.specs.declared.pages.TreeFault.{TreeFault}
 use Rattle.btree.specs.Change.{IsBehind, IsHeldBehind}
-use Rattle.btree.specs.EditView.{edit_in}
-use Rattle.btree.specs.Keys.{Pair, entry_of, Edit, Entry, Each, IsBetween, IsNotUnder, change}
+use Rattle.tree_model.specs.EditView.{edit_in}
+use Rattle.tree_model.specs.Keys.{Pair, entry_of, Edit, Entry, Each, IsBetween, IsNotUnder, change}
 use Rattle.std.specs.List.{AllByRecursion}
 use Rattle.page.specs.Content.{Pivot, Item, IsItem, branch, leaf}
-use Rattle.btree.specs.Calls.{IsEdited}
+use Rattle.tree_model.specs.Calls.{IsEdited}
 use Rattle.btree.specs.Loose.{IsSlot, Slot, pivot_slot, first_or, item_slot, under_key}
-use Rattle.btree.specs.Tree.{Body, IsSound, content_of, item_of, pages_of}
-use Rattle.btree.specs.Store.{Store, Frame}
-use Rattle.btree.proofs.StoreLemmas.{cause_later}
-use Rattle.btree.specs.Turn.{AreTurned, GoesBefore, IsHeld, IsReady, IsTurned, IsUpTo, NodeModel}
-use Rattle.btree.proofs.ListLemmas.{drop_more, map_map, times_append}
+use Rattle.tree_model.specs.Tree.{Body, IsSound, content_of, item_of, pages_of}
+use Rattle.tree_model.specs.Store.{Store, Frame}
+use Rattle.tree_model.proofs.StoreLemmas.{cause_later}
+use Rattle.tree_model.specs.Reach.{AreTurned}
+use Rattle.btree.specs.Turn.{GoesBefore, IsHeld, IsReady, IsTurned, IsUpTo, NodeModel}
+use Rattle.tree_model.proofs.ListLemmas.{drop_more, map_map, times_append}
 use Rattle.btree.proofs.HeldLemmas.{IsTurn, glue_held, held_later}
 use Rattle.btree.proofs.JoinLemmas.{right_gone}
 

@@ -2,10 +2,10 @@
 use Rattle.std.proofs.Common.{◌≡◌, ℕ, zero, suc, ◌+◌, ◌-◌, ◌*◌, ◌<◌, ◌≤◌, List, [], ◌∷◌, length, map, take, drop, get_or, Option, Some, Bool, true, false, refl}
 use Rattle.std.proofs.Common.{sym, ap, ◌∙◌, subst, arith, inl, inr}
 use Rattle.btree.specs.declared.node.LooseSlot.{LooseSlot}
-use Rattle.btree.specs.Keys.{Each, Rises}
+use Rattle.tree_model.specs.Keys.{Each, Rises}
 use Rattle.btree.specs.Loose.{GoBehind, IsOver, IsPart, IsSlot, Slot, slot_keys, slot_size, slots_size}
 use Rattle.btree.specs.LooseView.{slot_in}
-use Rattle.btree.proofs.ListLemmas.{long_map}
+use Rattle.tree_model.proofs.ListLemmas.{long_map}
 
 -- what stands at a place of a list, and behind it
 drop_next : (loose_slots : List LooseSlot) (i : ℕ) (u d : LooseSlot) → i < length loose_slots → u ≡ get_or loose_slots i d

@@ -6,24 +6,24 @@ use Rattle.std.specs.Result.{IsErrAnd}
 use Rattle.std.specs.Ordering.{is_eq}
 use Rattle.std.specs.declared.cmp.Ordering.TheVariants.{Less, Equal, Greater}
 use Rattle.std.specs.FinMap.{slice_cmp-IsAntisymmetric, nat_cmp-IsAntisymmetric}
-use Rattle.btree.specs.declared.pages.TreeFault.{TreeFault}
+use Rattle.tree_model.specs.declared.pages.TreeFault.{TreeFault}
 use Rattle.page.specs.declared.cells.Cell.{Cell}
 use Rattle.page.specs.Content.{Item, IsItem, inline, spilled}
-use Rattle.btree.specs.Keys.{Pair, Entry, Edit, Each, Rises, IsBetween, IsUnder, IsNotUnder, behind, edit_map, entries_at, entry_of, key_cmp, times}
-use Rattle.btree.specs.Search.{IsPlace}
-use Rattle.btree.specs.Store.{Store, Frame, HasCause}
-use Rattle.btree.specs.Tree.{HasChain, HasLinks, item_of, next_of, pair_keys, place_of}
-use Rattle.btree.specs.declared.editing.Edit.{Edit as ProgramEdit}
-use Rattle.btree.specs.EditView.{edit_in}
-use Rattle.btree.specs.View.{item_in, place_in}
-use Rattle.btree.specs.Calls.{AreRetired, IsAnswer, IsChained, IsEdited, IsSmallPlace, IsPutIn, IsStored, IsTakenOut}
-use Rattle.btree.proofs.KeyLemmas.{not_under_cases, not_under_itself, under_trans}
-use Rattle.btree.proofs.ListLemmas.{each_append, each_back, each_front, each_map, flat_append, map_append, long_map, at_place, rises_append, rises_back}
-use Rattle.btree.proofs.ListLemmas.{rises_front, times_append}
-use Rattle.btree.proofs.StoreLemmas.{cause_later, frame_trans, shows_kept}
+use Rattle.tree_model.specs.Keys.{Pair, Entry, Edit, Each, Rises, IsBetween, IsUnder, IsNotUnder, behind, edit_map, entries_at, entry_of, key_cmp, times}
+use Rattle.tree_model.specs.Search.{IsPlace}
+use Rattle.tree_model.specs.Store.{Store, Frame, HasCause}
+use Rattle.tree_model.specs.Tree.{HasChain, HasLinks, item_of, next_of, pair_keys, place_of}
+use Rattle.tree_model.specs.declared.edit.Edit.{Edit as ProgramEdit}
+use Rattle.tree_model.specs.EditView.{edit_in}
+use Rattle.tree_model.specs.View.{item_in, place_in}
+use Rattle.tree_model.specs.Calls.{AreRetired, IsAnswer, IsChained, IsEdited, IsSmallPlace, IsPutIn, IsStored, IsTakenOut}
+use Rattle.tree_model.proofs.KeyLemmas.{not_under_cases, not_under_itself, under_trans}
+use Rattle.tree_model.proofs.ListLemmas.{each_append, each_back, each_front, each_map, flat_append, map_append, long_map, at_place, rises_append, rises_back}
+use Rattle.tree_model.proofs.ListLemmas.{rises_front, times_append}
+use Rattle.tree_model.proofs.StoreLemmas.{cause_later, frame_trans, shows_kept}
 use Rattle.btree.proofs.ChangeLemmas.{before_over, behind_under, change_append, edit_between}
 use Rattle.btree.proofs.ScanLemmas.{each_entry}
-use Rattle.btree.proofs.GetLemmas.{all_under, back_is_over, front_is_under, item_here, mid_not_under}
+use Rattle.tree_model.proofs.GetLemmas.{all_under, back_is_over, front_is_under, item_here, mid_not_under}
 
 map_remove : {X Y : Type 0} (f : X → Y) (xs : List X) (i : ℕ) → map f (remove xs i) ≡ remove (map f xs) i
 map_remove f [] zero = refl

@@ -6,18 +6,18 @@ use Rattle.btree.specs.declared.node.LooseNode.{LooseNode}
 use Rattle.btree.specs.declared.node.LooseSlot.{LooseSlot}
 use Rattle.btree.specs.LooseView.{payload_in, slot_in}
 use Rattle.std.specs.List.{remove}
-use Rattle.btree.specs.declared.pages.TreeFault.{TreeFault}
-use Rattle.btree.specs.Calls.{IsAnswer}
-use Rattle.btree.specs.Keys.{Entry, Each, IsBetween, IsNotUnder, IsUnder, IsWithin, entry_of, times}
+use Rattle.tree_model.specs.declared.pages.TreeFault.{TreeFault}
+use Rattle.tree_model.specs.Calls.{IsAnswer}
+use Rattle.tree_model.specs.Keys.{Entry, Each, IsBetween, IsNotUnder, IsUnder, IsWithin, entry_of, times}
 use Rattle.btree.specs.Loose.{IsChild, IsSpread, IsSlot, Slot, child, slots_of, subtree_slot}
-use Rattle.btree.specs.Store.{Store, Frame, HasCause, IsAt}
-use Rattle.btree.specs.Tree.{high_of, pairs_of, Body, Subtree, IsSound, IsWhole, Shows, content_of, entries_of, pages_of, subtree_keys}
+use Rattle.tree_model.specs.Store.{Store, Frame, HasCause, IsAt}
+use Rattle.tree_model.specs.Tree.{high_of, pairs_of, Body, Subtree, IsSound, IsWhole, Shows, content_of, entries_of, pages_of, subtree_keys}
 use Rattle.btree.specs.Turn.{AreParted, IsHeld, IsReady, IsTurned, IsUpTo, IsFirstCut, NodeModel, both_of, model_in}
-use Rattle.btree.proofs.KeyLemmas.{not_both, not_under_itself, not_under_trans, up_to_then_under}
-use Rattle.btree.proofs.ListLemmas.{each_append, each_back, each_front, map_append, times_append}
+use Rattle.tree_model.proofs.KeyLemmas.{not_both, not_under_itself, not_under_trans, up_to_then_under}
+use Rattle.tree_model.proofs.ListLemmas.{each_append, each_back, each_front, map_append, times_append}
 use Rattle.btree.proofs.LooseLemmas.{Lies, entries_joined, joined, pages_joined, shows_parts, split_body, spread_split}
 use Rattle.btree.proofs.HeldLemmas.{glue_held, held_low}
-use Rattle.btree.proofs.StoreLemmas.{frame_trans, shows_kept}
+use Rattle.tree_model.proofs.StoreLemmas.{frame_trans, shows_kept}
 
 pub within_up_to : (key : List ℕ) (high : Option (List ℕ)) → IsWithin high key → IsUpTo key high
 within_up_to key None h = tt

@@ -9,26 +9,26 @@ use Rattle.std.specs.Result.{IfOk, IsErrAnd}
 use Rattle.page.specs.Content.{Pivot, IsBranch, IsItem, Item, item_size, total}
 use Rattle.btree.specs.declared.node.LooseNode.{LooseNode}
 use Rattle.btree.specs.declared.node.LooseSlot.{LooseSlot}
-use Rattle.btree.specs.declared.pages.TreeFault.{TreeFault}
+use Rattle.tree_model.specs.declared.pages.TreeFault.{TreeFault}
 use Rattle.page.specs.declared.cells.Cell.{Cell}
 use Rattle.btree.specs.LooseView.{slot_in}
-use Rattle.btree.specs.View.{item_in}
-use Rattle.btree.specs.Calls.{IsChained}
-use Rattle.btree.specs.Tree.{HasLinks}
-use Rattle.btree.specs.Change.{edit_keys}
-use Rattle.btree.specs.Keys.{Each, Edit, Entry, IsNotUnder, IsUnder, Rises, sum_of}
+use Rattle.tree_model.specs.View.{item_in}
+use Rattle.tree_model.specs.Calls.{IsChained}
+use Rattle.tree_model.specs.Tree.{HasLinks}
+use Rattle.tree_model.specs.Keys.{edit_keys}
+use Rattle.tree_model.specs.Keys.{Each, Edit, Entry, IsNotUnder, IsUnder, Rises, sum_of}
 use Rattle.btree.specs.Loose.{IsChild, IsSlot, Slot, pivot_slot, item_slot, slot_size, slots_size, under_key}
 use Rattle.btree.specs.Few.{AreFewJoined, AreFewPages, AreFewSettled, AreNotJoined, AreNotSettled, EndsFew, EndsFewOrOne, EndsJoined, EndsSettled}
 use Rattle.btree.specs.Few.{EndsTop, IsFew, IsFewOrOne, IsLittle, IsOneChild, MakesUpTo, WritesUpTo, chain_pages, edit_pages, levels_of}
-use Rattle.btree.specs.Reach.{HasMap, HasTree}
-use Rattle.btree.specs.Store.{IsSame, Store}
+use Rattle.tree_model.specs.Reach.{HasMap, HasTree}
+use Rattle.tree_model.specs.Store.{IsSame, Store}
 use Rattle.btree.specs.Turn.{NodeModel, model_in}
-use Rattle.btree.specs.EditView.{edit_in}
+use Rattle.tree_model.specs.EditView.{edit_in}
 use Rattle.btree.proofs.EditLemmas.{edits_more}
-use Rattle.btree.proofs.ListLemmas.{each_append, each_back, each_front, get_here, long_append, long_map}
+use Rattle.tree_model.proofs.ListLemmas.{each_append, each_back, each_front, get_here, long_append, long_map}
 use Rattle.btree.proofs.HeldLemmas.{under_long}
 use Rattle.btree.proofs.FewParts.{both_size, size_many, items_size}
-use Rattle.btree.specs.declared.editing.Edit.{Edit as ProgramEdit}
+use Rattle.tree_model.specs.declared.edit.Edit.{Edit as ProgramEdit}
 
 -- a fault, whatever it is
 pub stopped : {X : Type 0} (P : X → Type 0) (Q : Type 0) (R : TreeFault → Type 0) (r : Result X TreeFault) → IsErrAnd r R → Q → MatchResult r P (λ e. Q)

@@ -5,15 +5,15 @@ use Rattle.std.specs.List.{AllByRecursion}
 use Rattle.std.specs.Result.{IfOk}
 use Rattle.page.specs.Content.{Pivot, IsPivot, IsBranch, IsItem, IsLeaf, Item, pivot_size, item_size, total}
 use Rattle.btree.specs.declared.node.LooseSlot.{LooseSlot}
-use Rattle.btree.specs.declared.pages.TreeFault.{TreeFault}
+use Rattle.tree_model.specs.declared.pages.TreeFault.{TreeFault}
 use Rattle.btree.specs.LooseView.{slot_in}
-use Rattle.btree.specs.Keys.{Each}
+use Rattle.tree_model.specs.Keys.{Each}
 use Rattle.btree.specs.Loose.{IsChild, IsSlot, Slot, pivot_slot, item_slot, slot_size, slots_size, under_key}
 use Rattle.btree.specs.Few.{AreFewPages, IsFullPart, IsOnePage, MakesUpTo, WritesUpTo}
-use Rattle.btree.specs.Store.{IsMade, Store}
+use Rattle.tree_model.specs.Store.{IsMade, Store}
 use Rattle.page.specs.Content.{Content}
 use Rattle.btree.proofs.CuttingLemmas.{each_at, each_drop, size_all, size_next, size_split}
-use Rattle.btree.proofs.ListLemmas.{each_append, long_append, long_map}
+use Rattle.tree_model.proofs.ListLemmas.{each_append, long_append, long_map}
 use Rattle.btree.proofs.LooseLemmas.{map_behind, map_take}
 use Rattle.btree.proofs.PartLemmas.{first_here}
 

@@ -2,22 +2,23 @@
 use Rattle.std.proofs.Common.{◌≡◌, ℕ, zero, suc, ◌+◌, ◌<◌, ◌≤◌, List, [], ◌∷◌, ◌++◌, length, map, get_or, Option, Some, Result, Ok, Err, Bool, refl, sym, ap}
 use Rattle.std.proofs.Common.{◌∙◌, subst, arith, ◌⊎◌, inl, inr, append-nil}
 use Rattle.std.specs.Result.{IfErr, IfOk, IsErrAnd, MatchResult}
-use Rattle.btree.specs.declared.pages.TreeFault.TheVariants.{Memory}
+use Rattle.tree_model.specs.declared.pages.TreeFault.TheVariants.{Memory}
 use Rattle.page.specs.Content.{Pivot, Item, IsPivot, IsItem, branch, leaf}
 use Rattle.std.specs.List.{AllByRecursion}
 use Rattle.btree.specs.declared.node.LooseNode.{LooseNode}
-use Rattle.btree.specs.declared.pages.TreeFault.{TreeFault}
-use Rattle.btree.specs.Calls.{IsAnswer}
-use Rattle.btree.specs.Keys.{Pair, Entry, Each, IsNotUnder, IsUnder, IsWithin, times}
+use Rattle.tree_model.specs.declared.pages.TreeFault.{TreeFault}
+use Rattle.tree_model.specs.Calls.{IsAnswer}
+use Rattle.tree_model.specs.Keys.{Pair, Entry, Each, IsNotUnder, IsUnder, IsWithin, times}
 use Rattle.btree.specs.Loose.{IsEnough, IsSpread, IsSlot, Slot, pivot_slot, child, first_or, item_slot, lowered, pair_slot, subtree_slot, slots_of, under_key}
-use Rattle.btree.specs.Store.{Store, Frame, HasCause}
-use Rattle.btree.specs.Tree.{Body, Subtree, IsSound, IsWhole, Shows, pivot_of, content_of, entries_of, item_of, pages_of, with_low}
-use Rattle.btree.specs.Turn.{AreTurned, AreWritten, IsHeld, IsReady, IsTurned, IsUpTo, MayFill, NodeModel, both_of, model_in}
-use Rattle.btree.proofs.KeyLemmas.{under_then_up_to}
-use Rattle.btree.proofs.ListLemmas.{each_append, get_mapped, long_map, map_map, times_append}
+use Rattle.tree_model.specs.Store.{Store, Frame, HasCause}
+use Rattle.tree_model.specs.Tree.{Body, Subtree, IsSound, IsWhole, Shows, pivot_of, content_of, entries_of, item_of, pages_of, with_low}
+use Rattle.tree_model.specs.Reach.{AreTurned}
+use Rattle.btree.specs.Turn.{AreWritten, IsHeld, IsReady, IsTurned, IsUpTo, MayFill, NodeModel, both_of, model_in}
+use Rattle.tree_model.proofs.KeyLemmas.{under_then_up_to}
+use Rattle.tree_model.proofs.ListLemmas.{each_append, get_mapped, long_map, map_map, times_append}
 use Rattle.btree.proofs.LooseLemmas.{entries_joined, joined, pages_joined, shows_joined, spread_glue, slots_joined}
 use Rattle.btree.proofs.RaiseLemmas.{no_entries, spread_first}
-use Rattle.btree.proofs.StoreLemmas.{memory_cause, shows_kept}
+use Rattle.tree_model.proofs.StoreLemmas.{memory_cause, shows_kept}
 use Rattle.btree.proofs.WideLemmas.{sound_spread, spread_high, spread_low, up_to_wider}
 
 -- a child under its bound

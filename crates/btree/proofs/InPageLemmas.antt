@@ -9,25 +9,26 @@ use Rattle.std.specs.declared.cmp.Ordering.{Ordering}
 use Rattle.std.specs.declared.cmp.Ordering.TheVariants.{Less, Equal, Greater}
 use Rattle.page.specs.Content.{Item, IsItem, IsLeaf, inline, is_below, item_keys, item_size, leaf, rise, rise_above, total}
 use Rattle.btree.specs.declared.node.LooseNode.{LooseNode}
-use Rattle.btree.specs.declared.pages.TreeFault.{TreeFault}
-use Rattle.btree.specs.declared.editing.Edit.{Edit as ProgramEdit}
-use Rattle.btree.specs.EditView.{edit_in}
-use Rattle.btree.specs.Calls.{IsAnswer, IsEdited, IsPutIn, IsStored, IsTakenOut}
+use Rattle.tree_model.specs.declared.pages.TreeFault.{TreeFault}
+use Rattle.tree_model.specs.declared.edit.Edit.{Edit as ProgramEdit}
+use Rattle.tree_model.specs.EditView.{edit_in}
+use Rattle.tree_model.specs.Calls.{IsAnswer, IsEdited, IsPutIn, IsStored, IsTakenOut}
 use Rattle.btree.specs.Few.{IsFew, edit_room}
-use Rattle.btree.specs.Keys.{Each, Edit, IsNotUnder, IsUnder, Pair, Rises, change, entry_of, key_cmp, sum_of, times}
+use Rattle.tree_model.specs.Keys.{Each, Edit, IsNotUnder, IsUnder, Pair, Rises, change, entry_of, key_cmp, sum_of, times}
 use Rattle.btree.specs.Loose.{IsSlot, Slot, pivot_slot, pair_slot, slots_size}
-use Rattle.btree.specs.Search.{IsGap, IsPlace}
-use Rattle.btree.specs.Store.{Frame, IsAt, IsMade, Store}
-use Rattle.btree.specs.Tree.{HasChain, IsSound, Shows, item_of, pages_of, pair_keys}
+use Rattle.tree_model.specs.Search.{IsGap, IsPlace}
+use Rattle.tree_model.specs.Store.{Frame, IsAt, IsMade, Store}
+use Rattle.tree_model.specs.Tree.{HasChain, IsSound, Shows, item_of, pages_of, pair_keys}
 use Rattle.btree.specs.Turn.{IsTurned}
 use Rattle.btree.proofs.ChangingLemmas.{turned_on}
 use Rattle.btree.proofs.EditLemmas.{edits_more, insert_here, put_key, remove_here}
 use Rattle.btree.proofs.HeldLemmas.{IsTurn}
-use Rattle.btree.proofs.KeyLemmas.{not_under_cases, under_trans, up_to_then_under}
-use Rattle.btree.proofs.ListLemmas.{At, at_place, each_map, each_of_map, get_front, get_here, long_append, map_append, rises_across, rises_append, rises_back}
-use Rattle.btree.proofs.ListLemmas.{rises_front}
+use Rattle.tree_model.proofs.KeyLemmas.{not_under_cases, under_trans, up_to_then_under}
+use Rattle.tree_model.proofs.ListLemmas.{At, at_place, each_map, each_of_map, get_front, get_here, long_append, map_append, rises_across, rises_append}
+use Rattle.tree_model.proofs.ListLemmas.{rises_back}
+use Rattle.tree_model.proofs.ListLemmas.{rises_front}
 use Rattle.btree.proofs.SplitLemmas.{spread_up}
-use Rattle.btree.proofs.StoreLemmas.{cause_later, frame_trans, shows_kept}
+use Rattle.tree_model.proofs.StoreLemmas.{cause_later, frame_trans, shows_kept}
 
 -- ---- keys of a leaf rise
 

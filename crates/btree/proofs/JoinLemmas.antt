@@ -6,15 +6,15 @@ use Rattle.std.specs.Result.{IfOk}
 use Rattle.std.proofs.lemmas.Bool.Decides.{nat_tests}
 use Rattle.btree.specs.LooseView.{slot_in}
 use Rattle.btree.specs.declared.node.LooseNode.{LooseNode}
-use Rattle.btree.specs.declared.pages.TreeFault.{TreeFault}
-use Rattle.btree.specs.Keys.{Entry, IsNotUnder}
-use Rattle.btree.specs.Store.{Store, Frame}
+use Rattle.tree_model.specs.declared.pages.TreeFault.{TreeFault}
+use Rattle.tree_model.specs.Keys.{Entry, IsNotUnder}
+use Rattle.tree_model.specs.Store.{Store, Frame}
 use Rattle.btree.proofs.HeldLemmas.{IsTurn}
 use Rattle.btree.specs.Turn.{AreParted, IsFirstCut, IsHeld, IsJoined, IsReady, IsTurned, IsUpTo, NodeModel, model_in}
-use Rattle.btree.proofs.KeyLemmas.{not_under_trans}
-use Rattle.btree.proofs.ListLemmas.{long_map, times_append}
+use Rattle.tree_model.proofs.KeyLemmas.{not_under_trans}
+use Rattle.tree_model.proofs.ListLemmas.{long_map, times_append}
 use Rattle.btree.proofs.RaiseLemmas.{no_entries}
-use Rattle.btree.proofs.StoreLemmas.{cause_later, frame_trans}
+use Rattle.tree_model.proofs.StoreLemmas.{cause_later, frame_trans}
 use Rattle.btree.proofs.WideLemmas.{spread_high, spread_low, up_to_wider}
 
 module _ (s : Store) (base : ℕ) (low mid : List ℕ) (high : Option (List ℕ)) (first last : List Entry) (left_pages right_pages : List ℕ) (left right : NodeModel)

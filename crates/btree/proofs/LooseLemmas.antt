@@ -1,12 +1,13 @@
 -- Bodies in parts: what holds of both parts, and of the whole.
 use Rattle.std.proofs.Common.{◌≡◌, ℕ, zero, suc, ◌+◌, List, [], ◌∷◌, ◌++◌, map, take, drop, Option, Some, refl, sym, ap, ◌∙◌, subst}
-use Rattle.btree.specs.Keys.{Each, Rises, IsUnder, IsBetween, entry_of, times}
-use Rattle.btree.specs.Store.{Store}
+use Rattle.tree_model.specs.Keys.{Each, Rises, IsUnder, IsBetween, entry_of, times}
+use Rattle.tree_model.specs.Store.{Store}
 use Rattle.btree.specs.Loose.{IsSpread, Slot, bare, first_or, pair_slot, subtree_slot, slots_of}
-use Rattle.btree.specs.Tree.{Subtree, Body, IsSound, IsWhole, Shows, entries_of, high_of, pages_of, pair_keys, pairs_of, subtree_keys}
-use Rattle.btree.proofs.KeyLemmas.{under_trans, not_under_itself, not_both, within_wider}
-use Rattle.btree.proofs.ListLemmas.{each_append, each_back, each_front, each_map, flat_append, map_append, rises_append, rises_back, rises_front, times_append}
-use Rattle.btree.proofs.FanLemmas.{fan_append, fan_back, fan_front}
+use Rattle.tree_model.specs.Tree.{Subtree, Body, IsSound, IsWhole, Shows, entries_of, high_of, pages_of, pair_keys, pairs_of, subtree_keys}
+use Rattle.tree_model.proofs.KeyLemmas.{under_trans, not_under_itself, not_both, within_wider}
+use Rattle.tree_model.proofs.ListLemmas.{each_append, each_back, each_front, each_map, flat_append, map_append, rises_append, rises_back, rises_front}
+use Rattle.tree_model.proofs.ListLemmas.{times_append}
+use Rattle.tree_model.proofs.FanLemmas.{fan_append, fan_back, fan_front}
 
 abbrev pub joined : (d : ℕ) → Body d → Body d → Body d
 joined zero xs ys = xs ++ ys

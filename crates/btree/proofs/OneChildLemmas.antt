@@ -4,26 +4,28 @@ use Rattle.std.proofs.Common.{refl, sym, ap, ◌∙◌, subst, arith, inl, inr, 
 use Rattle.std.specs.List.{AllByRecursion}
 use Rattle.page.specs.ChildPage.{with_child}
 use Rattle.page.specs.Content.{Pivot, IsPivot, IsBranch, branch, first_key}
-use Rattle.btree.specs.declared.editing.Edit.{Edit as ProgramEdit}
-use Rattle.btree.specs.Change.{IsBehind, edit_keys}
-use Rattle.btree.specs.EditView.{edit_in}
-use Rattle.btree.specs.Keys.{Each, Edit, Entry, IsBetween, IsNotUnder, IsUnder, IsWithin, Rises, change, entry_of, times}
+use Rattle.tree_model.specs.declared.edit.Edit.{Edit as ProgramEdit}
+use Rattle.tree_model.specs.Keys.{edit_keys}
+use Rattle.btree.specs.Change.{IsBehind}
+use Rattle.tree_model.specs.EditView.{edit_in}
+use Rattle.tree_model.specs.Keys.{Each, Edit, Entry, IsBetween, IsNotUnder, IsUnder, IsWithin, Rises, change, entry_of, times}
 use Rattle.btree.specs.Loose.{IsLoad, IsSpread, IsSlot, Slot, pivot_slot, bare, child, first_or, slots_of, subtree_slot, under_key}
 use Rattle.btree.specs.OneChild.{AreAt, IsAmid, IsPageOf}
-use Rattle.btree.specs.Search.{IsChildPlace}
-use Rattle.btree.specs.Store.{Frame, IsAt, IsMade, Store}
-use Rattle.btree.specs.Tree.{Body, IsSound, Shows, Subtree, pivot_of, entries_of, pages_of, pairs_of, with_low}
-use Rattle.btree.specs.Turn.{AreTurned, IsHeld, IsTurned, IsUpTo, NodeModel}
+use Rattle.tree_model.specs.Search.{IsChildPlace}
+use Rattle.tree_model.specs.Store.{Frame, IsAt, IsMade, Store}
+use Rattle.tree_model.specs.Tree.{Body, IsSound, Shows, Subtree, pivot_of, entries_of, pages_of, pairs_of, with_low}
+use Rattle.tree_model.specs.Reach.{AreTurned}
+use Rattle.btree.specs.Turn.{IsHeld, IsTurned, IsUpTo, NodeModel}
 use Rattle.btree.proofs.ChangingLemmas.{begins, behind_later}
 use Rattle.btree.proofs.EndLemmas.{last_off, within_up_to}
 use Rattle.btree.proofs.HeldLemmas.{pivot_there, glue_held, held_later, under_long}
-use Rattle.btree.proofs.KeyLemmas.{not_under_itself, not_under_trans, not_both}
-use Rattle.btree.proofs.ListLemmas.{at_place, each_map, get_here, get_mapped, long_append, map_map, times_append}
+use Rattle.tree_model.proofs.KeyLemmas.{not_under_itself, not_under_trans, not_both}
+use Rattle.tree_model.proofs.ListLemmas.{at_place, each_map, get_here, get_mapped, long_append, map_map, times_append}
 use Rattle.btree.proofs.LooseLemmas.{bare_pages, bare_pairs, bare_shows, bare_sound}
 use Rattle.btree.proofs.PartLemmas.{same_pivots}
 use Rattle.btree.proofs.PrepareLemmas.{IsPrepared, all_up_to_last, prepared, prepared_entries}
 use Rattle.btree.proofs.RaiseLemmas.{no_entries}
-use Rattle.btree.proofs.StoreLemmas.{shows_kept}
+use Rattle.tree_model.proofs.StoreLemmas.{shows_kept}
 use Rattle.btree.proofs.WideLemmas.{sound_low}
 
 abbrev pub nothing : Pivot

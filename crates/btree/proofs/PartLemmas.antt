@@ -3,23 +3,23 @@ use Rattle.std.proofs.Common.{◌≡◌, ℕ, zero, suc, ◌+◌, ◌<◌, ◌�
 use Rattle.std.proofs.Common.{true, ◌&&◌, refl, sym, ap, ◌∙◌, subst, arith}
 use Rattle.std.specs.List.{AllByRecursion}
 use Rattle.std.specs.Result.{IfErr, IsErrAnd, MatchResult}
-use Rattle.btree.specs.declared.pages.TreeFault.{TreeFault}
-use Rattle.btree.specs.declared.pages.TreeFault.TheVariants.{Memory}
+use Rattle.tree_model.specs.declared.pages.TreeFault.{TreeFault}
+use Rattle.tree_model.specs.declared.pages.TreeFault.TheVariants.{Memory}
 use Rattle.std.specs.Ordering.{is_lt}
 use Rattle.page.specs.Content.{Item, Pivot, IsPivot, IsBranch, IsItem, IsLeaf, pivot_keys, pivot_size, item_keys, item_size, Place, inline, leaf, branch}
 use Rattle.page.specs.Content.{rise_above}
 use Rattle.page.specs.Content.{total}
-use Rattle.btree.specs.Keys.{Pair, IsUnder, IsNotUnder}
+use Rattle.tree_model.specs.Keys.{Pair, IsUnder, IsNotUnder}
 use Rattle.btree.specs.Loose.{GoBehind, IsChild, IsEnough, Slot, pivot_slot, bare, bare_pivots, item_slot, pair_slot, slots_of, subtree_slot, Load, value}
 use Rattle.btree.specs.Loose.{child}
-use Rattle.btree.specs.Tree.{Body, Subtree, IsWhole, pivot_of, content_of, item_of, place_of, with_low}
-use Rattle.btree.specs.View.{pivot_in, content_in}
+use Rattle.tree_model.specs.Tree.{Body, Subtree, IsWhole, pivot_of, content_of, item_of, place_of, with_low}
+use Rattle.tree_model.specs.View.{pivot_in, content_in}
 use Rattle.page.specs.declared.cells.Child.{Child}
 use Rattle.btree.specs.declared.node.LooseSlot.{LooseSlot}
 use Rattle.btree.specs.LooseView.{slot_in}
 use Rattle.page.specs.declared.page_content.PageContent.{PageContent}
-use Rattle.btree.proofs.KeyLemmas.{up_to_then_under}
-use Rattle.btree.proofs.ListLemmas.{long_map, map_append, map_map, take_more_map}
+use Rattle.tree_model.proofs.KeyLemmas.{up_to_then_under}
+use Rattle.tree_model.proofs.ListLemmas.{long_map, map_append, map_map, take_more_map}
 
 behind_items : (last : List ℕ) (used : ℕ) (items : List Item) → used ≤ 4080 → GoBehind (Some last) used (map item_slot items)
     → AllByRecursion IsItem items × (rise_above last (item_keys items) ≡ true) × (used + total item_size items ≤ 4080)

@@ -2,28 +2,29 @@
 use Rattle.std.proofs.Common.{◌≡◌, ℕ, zero, suc, ◌+◌, ◌-◌, ◌<◌, ◌≤◌, take, get_or, List, [], ◌∷◌, ◌++◌, length, map, Option, Some, None, Result, Ok, Err, refl}
 use Rattle.std.proofs.Common.{sym, ap, ◌∙◌, subst, arith, inl, inr, append_assoc}
 use Rattle.btree.specs.declared.node.LooseNode.{LooseNode}
-use Rattle.btree.specs.declared.editing.Edit.{Edit as ProgramEdit}
-use Rattle.btree.specs.EditView.{edit_in}
+use Rattle.tree_model.specs.declared.edit.Edit.{Edit as ProgramEdit}
+use Rattle.tree_model.specs.EditView.{edit_in}
 use Rattle.btree.specs.LooseView.{payload_in, slot_in}
 use Rattle.btree.specs.declared.node.LooseSlot.{LooseSlot}
 use Rattle.btree.proofs.CuttingLemmas.{take_over}
-use Rattle.btree.specs.declared.pages.TreeFault.{TreeFault}
-use Rattle.btree.specs.Change.{BeginsAt, IsBehind, edit_keys}
-use Rattle.btree.specs.Keys.{Edit, Entry, Each, IsBetween, IsNotUnder, IsUnder, IsWithin, Rises, change}
+use Rattle.tree_model.specs.declared.pages.TreeFault.{TreeFault}
+use Rattle.tree_model.specs.Keys.{edit_keys}
+use Rattle.btree.specs.Change.{BeginsAt, IsBehind}
+use Rattle.tree_model.specs.Keys.{Edit, Entry, Each, IsBetween, IsNotUnder, IsUnder, IsWithin, Rises, change}
 use Rattle.btree.specs.Loose.{Slot, child, first_or}
-use Rattle.btree.specs.Store.{Store, Frame}
+use Rattle.tree_model.specs.Store.{Store, Frame}
 use Rattle.btree.proofs.HeldLemmas.{IsTurn}
-use Rattle.btree.specs.Tree.{entries_of, pages_of}
+use Rattle.tree_model.specs.Tree.{entries_of, pages_of}
 use Rattle.btree.specs.Turn.{IsHeld, IsTurned, IsUpTo, NodeModel, model_in}
-use Rattle.btree.proofs.ListLemmas.{each_append, each_back, each_front, each_map, get_here, get_mapped, long_append, long_map, map_append, rises_back}
-use Rattle.btree.proofs.ListLemmas.{rises_front, times_append}
+use Rattle.tree_model.proofs.ListLemmas.{each_append, each_back, each_front, each_map, get_here, get_mapped, long_append, long_map, map_append, rises_back}
+use Rattle.tree_model.proofs.ListLemmas.{rises_front, times_append}
 use Rattle.btree.proofs.EndLemmas.{IsLastOff, last_off, within_up_to}
 use Rattle.btree.proofs.SplitLemmas.{take_under, IsTwo, apart, apart_over, change_parts, held_between, two_parts}
-use Rattle.btree.proofs.StoreLemmas.{cause_later, frame_trans}
+use Rattle.tree_model.proofs.StoreLemmas.{cause_later, frame_trans}
 use Rattle.btree.proofs.JoinLemmas.{up_to_trans}
-use Rattle.btree.proofs.KeyLemmas.{not_under_trans}
+use Rattle.tree_model.proofs.KeyLemmas.{not_under_trans}
 use Rattle.btree.proofs.ScanLemmas.{each_entry}
-use Rattle.btree.proofs.FanLemmas.{pairs_between}
+use Rattle.tree_model.proofs.FanLemmas.{pairs_between}
 
 pub record IsPrepared (s : Store) (base : ℕ) (low : List ℕ) (high : Option (List ℕ)) (entries : List Entry) (reached : List ℕ) (rank : ℕ)
     (left right : List Slot) (t : Slot) (page : ℕ) (theirs mine : List Edit) : Type 0 where

@@ -1,23 +1,23 @@
 -- A body that is cut and written stands one level up.
 use Rattle.std.proofs.Common.{◌≡◌, ℕ, zero, suc, ◌+◌, ◌<◌, ◌≤◌, List, [], ◌∷◌, ◌++◌, length, map, take, drop, Option, Some, None, Result, Ok, Err, Bool, refl}
 use Rattle.std.proofs.Common.{sym, ap, ◌∙◌, subst, arith, ◌⊎◌, inl, inr, append-nil, append_assoc}
-use Rattle.btree.specs.Keys.{Each, IsBetween, Rises, entry_of, times}
+use Rattle.tree_model.specs.Keys.{Each, IsBetween, Rises, entry_of, times}
 use Rattle.btree.specs.Loose.{load_size, slot_size, IsLoad, GoBehind, IsEnough, IsOver, IsPart, IsSpread, IsSlot, Slot, bare, first_or, pair_slot, slot_keys}
 use Rattle.btree.specs.Loose.{slots_of, subtree_slot}
-use Rattle.btree.specs.Store.{Store, Frame, HasCause}
-use Rattle.btree.specs.Tree.{Body, Subtree, IsSound, Shows, entries_of, pages_of, pairs_of}
+use Rattle.tree_model.specs.Store.{Store, Frame, HasCause}
+use Rattle.tree_model.specs.Tree.{Body, Subtree, IsSound, Shows, entries_of, pages_of, pairs_of}
 use Rattle.btree.specs.Turn.{AreWritten, IsWritten, MayFill}
 use Rattle.std.specs.Result.{IsErrAnd}
 use Rattle.btree.proofs.CuttingLemmas.{behind_long, go_all}
-use Rattle.btree.proofs.ListLemmas.{each_append, long_map, map_append, map_map}
+use Rattle.tree_model.proofs.ListLemmas.{each_append, long_map, map_append, map_map}
 use Rattle.btree.proofs.LooseLemmas.{Lies, bare_pages, bare_pairs, bare_shows, bare_sound, entries_joined, pages_joined, shows_joined, map_behind, map_take}
 use Rattle.btree.proofs.LooseLemmas.{shows_parts, split_body, spread_glue, spread_split}
 use Rattle.btree.proofs.PartLemmas.{body_whole}
-use Rattle.btree.proofs.StoreLemmas.{cause_later, shows_kept}
+use Rattle.tree_model.proofs.StoreLemmas.{cause_later, shows_kept}
 use Rattle.btree.specs.declared.node.LooseSlot.{LooseSlot}
-use Rattle.btree.specs.declared.pages.TreeFault.{TreeFault}
+use Rattle.tree_model.specs.declared.pages.TreeFault.{TreeFault}
 use Rattle.btree.specs.LooseView.{slot_in}
-use Rattle.btree.specs.Calls.{IsAnswer}
+use Rattle.tree_model.specs.Calls.{IsAnswer}
 
 -- so many were written, and these are left
 pub record ArePartly (old new : Store) (d : ℕ) (low : List ℕ) (high : Option (List ℕ)) (body : Body d) (above rest : List Slot) : Type 0 where

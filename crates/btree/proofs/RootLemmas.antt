@@ -6,22 +6,23 @@ use Rattle.std.specs.Result.{IsErrAnd, MatchResult}
 use Rattle.std.proofs.Math.Pow.{pow_mono}
 use Rattle.std.proofs.lemmas.List.{length-append}
 use Rattle.page.specs.Content.{Pivot, branch}
-use Rattle.btree.specs.Calls.{IsAnswer, IsPart}
+use Rattle.tree_model.specs.Calls.{IsAnswer, IsPart}
 use Rattle.btree.specs.Change.{IsChanged, IsTooHigh}
-use Rattle.btree.specs.Keys.{Each, Edit, Entry, IsBetween, change, entry_of, times}
+use Rattle.tree_model.specs.Keys.{Each, Edit, Entry, IsBetween, change, entry_of, times}
 use Rattle.btree.specs.Loose.{IsChild, IsSpread, Slot, child, pair_slot, slots_of, subtree_slot}
-use Rattle.btree.specs.Reach.{HasMap}
-use Rattle.btree.specs.Store.{Frame, HasCause, IsSame, Store}
-use Rattle.btree.specs.Tree.{Body, IsFan, IsSound, IsWhole, Shows, Subtree, pivot_of, content_of, entries_of, high_of, item_of, pages_of, pairs_of}
-use Rattle.btree.specs.Turn.{AreTurned, IsHeld, IsReady, IsTurned, NodeModel, model_in}
+use Rattle.tree_model.specs.Reach.{HasMap}
+use Rattle.tree_model.specs.Store.{Frame, HasCause, IsSame, Store}
+use Rattle.tree_model.specs.Tree.{Body, IsFan, IsSound, IsWhole, Shows, Subtree, pivot_of, content_of, entries_of, high_of, item_of, pages_of, pairs_of}
+use Rattle.tree_model.specs.Reach.{AreTurned}
+use Rattle.btree.specs.Turn.{IsHeld, IsReady, IsTurned, NodeModel, model_in}
 use Rattle.btree.specs.declared.node.LooseNode.{LooseNode}
-use Rattle.btree.specs.declared.pages.TreeFault.{TreeFault}
-use Rattle.btree.specs.declared.pages.TreeFault.TheVariants.{Full}
-use Rattle.btree.proofs.GetLemmas.{root_between}
-use Rattle.btree.proofs.ListLemmas.{long_map}
+use Rattle.tree_model.specs.declared.pages.TreeFault.{TreeFault}
+use Rattle.tree_model.specs.declared.pages.TreeFault.TheVariants.{Full}
+use Rattle.tree_model.proofs.GetLemmas.{root_between}
+use Rattle.tree_model.proofs.ListLemmas.{long_map}
 use Rattle.btree.proofs.LooseLemmas.{Lies}
 use Rattle.btree.proofs.RaiseLemmas.{no_entries}
-use Rattle.btree.proofs.StoreLemmas.{cause_later, frame_same}
+use Rattle.tree_model.proofs.StoreLemmas.{cause_later, frame_same}
 use Rattle.btree.proofs.WideLemmas.{sound_low}
 
 -- ---- how many entries a tree of so many levels has

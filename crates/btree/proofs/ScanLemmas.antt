@@ -8,19 +8,19 @@ use Rattle.std.specs.Ordering.{is_lt}
 use Rattle.btree.specs.declared.scanning.Entry.{Entry as KeptEntry}
 use Rattle.btree.specs.declared.scanning.Filling.{Filling}
 use Rattle.page.specs.Content.{Item, Pivot, branch, leaf}
-use Rattle.btree.specs.Keys.{Pair, Entry, entry_of, Each, Rises, IsUnder, IsNotUnder, IsWithin, IsPast, key_cmp, keep_if, is_within, window}
-use Rattle.btree.specs.Search.{IsPlace, IsEndPlace, IsChildPlace, AreBounds}
+use Rattle.tree_model.specs.Keys.{Pair, Entry, entry_of, Each, Rises, IsUnder, IsNotUnder, IsWithin, IsPast, key_cmp, keep_if, is_within, window}
+use Rattle.tree_model.specs.Search.{IsPlace, IsEndPlace, IsChildPlace, AreBounds}
 use Rattle.std.specs.Result.{IsErrAnd}
-use Rattle.btree.specs.declared.pages.TreeFault.{TreeFault}
-use Rattle.btree.specs.Calls.{IsAnswer, IsBatch, IsPart}
+use Rattle.tree_model.specs.declared.pages.TreeFault.{TreeFault}
+use Rattle.tree_model.specs.Calls.{IsAnswer, IsBatch, IsPart}
 use Rattle.btree.specs.Scan.{Fills, HoldsBatch, entry_in}
-use Rattle.btree.proofs.StoreLemmas.{cause_later, part_kept, shows_kept}
-use Rattle.btree.specs.Store.{Store, Frame, HasCause}
-use Rattle.btree.specs.Tree.{Subtree, Body, HasChain, Shows, IsSound, IsWhole, pivot_of, entries_of, item_of, pair_keys, pairs_of, subtree_keys, with_low}
-use Rattle.btree.proofs.KeyLemmas.{not_both, not_under_trans, under_then_up_to, under_trans, within_wider}
-use Rattle.btree.proofs.ListLemmas.{each_back, each_get, each_map, each_of_map, cut_at, flat_append, long_map, map_append, rises_back}
-use Rattle.btree.proofs.GetLemmas.{child_part, open_branch, open_leaf, from_is, front_is_under, place_here}
-use Rattle.btree.proofs.FanLemmas.{around_child, fan_between, fans_around, keys_around, low_of, pairs_between}
+use Rattle.tree_model.proofs.StoreLemmas.{cause_later, part_kept, shows_kept}
+use Rattle.tree_model.specs.Store.{Store, Frame, HasCause}
+use Rattle.tree_model.specs.Tree.{Subtree, Body, HasChain, Shows, IsSound, IsWhole, pivot_of, entries_of, item_of, pair_keys, pairs_of, subtree_keys, with_low}
+use Rattle.tree_model.proofs.KeyLemmas.{not_both, not_under_trans, under_then_up_to, under_trans, within_wider}
+use Rattle.tree_model.proofs.ListLemmas.{each_back, each_get, each_map, each_of_map, cut_at, flat_append, long_map, map_append, rises_back}
+use Rattle.tree_model.proofs.GetLemmas.{child_part, open_branch, open_leaf, from_is, front_is_under, place_here}
+use Rattle.tree_model.proofs.FanLemmas.{around_child, fan_between, fans_around, keys_around, low_of, pairs_between}
 
 pub window_append : (from : List ℕ) (to : Option (List ℕ)) (xs ys : List Entry) → window from to (xs ++ ys) ≡ window from to xs ++ window from to ys
 window_append from to [] ys = refl

@@ -3,18 +3,18 @@ use Rattle.std.proofs.Common.{◌≡◌, ℕ, zero, suc, ◌<◌, get_or, List, 
 use Rattle.page.specs.Content.{Content}
 use Rattle.btree.specs.declared.node.LooseNode.{LooseNode}
 use Rattle.btree.specs.declared.node.LooseSlot.{LooseSlot}
-use Rattle.btree.specs.declared.pages.TreeFault.{TreeFault}
-use Rattle.btree.specs.Keys.{Entry, Pair, times}
+use Rattle.tree_model.specs.declared.pages.TreeFault.{TreeFault}
+use Rattle.tree_model.specs.Keys.{Entry, Pair, times}
 use Rattle.btree.specs.Loose.{Slot, child, pair_slot, slots_of, subtree_slot}
 use Rattle.btree.specs.LooseView.{slot_in}
-use Rattle.btree.specs.Store.{Frame, IsAt, IsSame, Store}
-use Rattle.btree.specs.Tree.{Body, Shows, Subtree, content_of}
+use Rattle.tree_model.specs.Store.{Frame, IsAt, IsSame, Store}
+use Rattle.tree_model.specs.Tree.{Body, Shows, Subtree, content_of}
 use Rattle.btree.specs.Turn.{IsHeld, IsTurned, NodeModel, model_in}
 use Rattle.btree.proofs.ChangingLemmas.{turned_on}
 use Rattle.btree.proofs.CuttingLemmas.{at_slot}
 use Rattle.btree.proofs.HeldLemmas.{IsTurn}
-use Rattle.btree.proofs.ListLemmas.{long_map, times_append}
-use Rattle.btree.proofs.StoreLemmas.{frame_same}
+use Rattle.tree_model.proofs.ListLemmas.{long_map, times_append}
+use Rattle.tree_model.proofs.StoreLemmas.{frame_same}
 
 -- a child's page is there
 no_child : (xs : List Pair) (i : ℕ) (t : Slot) (page : ℕ) → i < length (map pair_slot xs) → (get_or (map pair_slot xs) i t).load ≡ child page → ⊥

@@ -1,15 +1,16 @@
 -- What was taken out of a page, in three parts: what is before a child, the child, and what is behind it.
 use Rattle.std.proofs.Common.{◌≡◌, ℕ, zero, suc, ◌+◌, ◌<◌, ◌≤◌, take, drop, get_or, List, [], ◌∷◌, ◌++◌, length, Option, refl, sym, ap, ◌∙◌, subst, arith, inl}
 use Rattle.std.proofs.Common.{inr}
-use Rattle.btree.specs.Keys.{Edit, Entry, Each, IsBetween, IsNotUnder, IsUnder, Rises, change, times}
+use Rattle.tree_model.specs.Keys.{Edit, Entry, Each, IsBetween, IsNotUnder, IsUnder, Rises, change, times}
 use Rattle.btree.specs.Loose.{IsSpread, IsSlot, Slot, first_or, slots_of}
-use Rattle.btree.specs.Change.{IsBehind, edit_keys}
-use Rattle.btree.specs.Store.{Store}
-use Rattle.btree.specs.Tree.{Body, Shows, entries_of, pages_of, pairs_of, pair_keys, subtree_keys}
+use Rattle.tree_model.specs.Keys.{edit_keys}
+use Rattle.btree.specs.Change.{IsBehind}
+use Rattle.tree_model.specs.Store.{Store}
+use Rattle.tree_model.specs.Tree.{Body, Shows, entries_of, pages_of, pairs_of, pair_keys, subtree_keys}
 use Rattle.btree.specs.Turn.{IsHeld, NodeModel}
-use Rattle.btree.proofs.KeyLemmas.{not_both, not_under_itself, not_under_trans, under_then_up_to, under_trans}
-use Rattle.btree.proofs.ListLemmas.{each_back, each_front, each_map, each_of_map, long_append, map_append}
-use Rattle.btree.proofs.FanLemmas.{fan_between, pairs_between}
+use Rattle.tree_model.proofs.KeyLemmas.{not_both, not_under_itself, not_under_trans, under_then_up_to, under_trans}
+use Rattle.tree_model.proofs.ListLemmas.{each_back, each_front, each_map, each_of_map, long_append, map_append}
+use Rattle.tree_model.proofs.FanLemmas.{fan_between, pairs_between}
 use Rattle.btree.proofs.LooseLemmas.{Lies, entries_joined, pages_joined, shows_parts, split_body, spread_split, take_drop}
 use Rattle.btree.proofs.EndLemmas.{drop_here, take_here, within_up_to}
 use Rattle.btree.proofs.RaiseLemmas.{no_entries, spread_first}

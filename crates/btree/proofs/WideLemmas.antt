@@ -1,11 +1,11 @@
 -- Wider bounds.
 use Rattle.std.proofs.Common.{ℕ, zero, suc, List, [], ◌∷◌, Option, Some, None}
-use Rattle.btree.specs.Keys.{Each, IsUnder, IsNotUnder, IsWithin, IsBetween}
+use Rattle.tree_model.specs.Keys.{Each, IsUnder, IsNotUnder, IsWithin, IsBetween}
 use Rattle.btree.specs.Loose.{IsSpread, lowered}
 use Rattle.btree.specs.Turn.{IsUpTo}
-use Rattle.btree.specs.Tree.{Subtree, Body, IsFan, IsSound, high_of, pair_keys, subtree_keys, with_low}
-use Rattle.btree.proofs.KeyLemmas.{not_both, not_under_itself, not_under_trans, under_then_up_to, up_to_then_under}
-use Rattle.btree.proofs.ListLemmas.{each_map}
+use Rattle.tree_model.specs.Tree.{Subtree, Body, IsFan, IsSound, high_of, pair_keys, subtree_keys, with_low}
+use Rattle.tree_model.proofs.KeyLemmas.{not_both, not_under_itself, not_under_trans, under_then_up_to, up_to_then_under}
+use Rattle.tree_model.proofs.ListLemmas.{each_map}
 use Rattle.btree.proofs.LooseLemmas.{Lies}
 
 -- whatever is below the one bound is below the other

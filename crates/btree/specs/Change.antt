@@ -1,16 +1,14 @@
 -- Edits of a tree's children.
 use Rattle.std.specs.Prelude.{◌≡◌, ℕ, ◌⊎◌, ◌≤◌, List, [], length, map, Option, Some, None, Result}
 use Rattle.std.specs.Prelude.{MatchResult}
-use Rattle.btree.specs.Keys.{Edit, Entry, times}
+use Rattle.tree_model.specs.Keys.{Edit, Entry, times}
 use Rattle.btree.specs.Loose.{Slot, first_or}
-use Rattle.btree.specs.Reach.{HasMap}
-use Rattle.btree.specs.Store.{HasCause, KeepsWord, Store}
-use Rattle.btree.specs.Turn.{AreTurned, IsHeld, IsUpTo, NodeModel}
-use Rattle.btree.specs.declared.pages.TreeFault.{TreeFault}
-use Rattle.btree.specs.declared.pages.TreeFault.TheVariants.{Full}
-
-abbrev pub edit_keys : List Edit → List (List ℕ)
-edit_keys edits = map (λ e. e.key) edits
+use Rattle.tree_model.specs.Reach.{HasMap}
+use Rattle.tree_model.specs.Store.{HasCause, KeepsWord, Store}
+use Rattle.tree_model.specs.Reach.{AreTurned}
+use Rattle.btree.specs.Turn.{IsHeld, IsUpTo, NodeModel}
+use Rattle.tree_model.specs.declared.pages.TreeFault.{TreeFault}
+use Rattle.tree_model.specs.declared.pages.TreeFault.TheVariants.{Full}
 
 pub record IsHeldBehind (s : Store) (base : ℕ) (between high : Option (List ℕ))
     (entries : List Entry) (pages : List ℕ) (model : NodeModel) : Type 0 where
@@ -30,13 +28,6 @@ IsBehind s base between high entries pages model =
 -- The first child's key is the low bound, where there is an edit.
 abbrev pub BeginsAt : List ℕ → List Edit → List Slot → Type 0
 BeginsAt low edits slots = (length edits ≡ 0) ⊎ (first_or None slots ≡ Some low)
-
--- a value put at a key, and a key removed
-abbrev pub put : List ℕ → List ℕ → Edit
-put key value = record { key = key; value = Some value }
-
-abbrev pub removal : List ℕ → Edit
-removal key = record { key = key; value = None }
 
 -- ---- the whole tree
 

@@ -3,11 +3,11 @@ use Rattle.std.specs.Prelude.{◌≡◌, ℕ, suc, ◌+◌, ◌-◌, ◌*◌, �
 use Rattle.std.specs.Prelude.{length, take, Option, Some, None, Result, MatchResult, if◌then◌else◌}
 use Rattle.std.proofs.Common.{inl, inr}
 use Rattle.btree.specs.declared.node.LooseNode.{LooseNode}
-use Rattle.btree.specs.declared.pages.TreeFault.{TreeFault}
-use Rattle.btree.specs.Keys.{Each, Edit, Entry}
+use Rattle.tree_model.specs.declared.pages.TreeFault.{TreeFault}
+use Rattle.tree_model.specs.Keys.{Each, Edit, Entry}
 use Rattle.btree.specs.Loose.{IsChild, IsSlot, Slot, slots_size}
-use Rattle.btree.specs.Reach.{HasMap}
-use Rattle.btree.specs.Store.{KeepsWord, Store}
+use Rattle.tree_model.specs.Reach.{HasMap}
+use Rattle.tree_model.specs.Store.{KeepsWord, Store}
 use Rattle.btree.specs.Turn.{NodeModel, model_in}
 
 -- ---- what the calls of a tree promise

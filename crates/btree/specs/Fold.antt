@@ -2,7 +2,7 @@
 use Rattle.std.specs.Prelude.{ℕ, List}
 use Rattle.std.specs.Option.{option_map}
 use Rattle.btree.specs.declared.folding.Bounds.{Bounds}
-use Rattle.btree.specs.Keys.{Entry, window}
+use Rattle.tree_model.specs.Keys.{Entry, window}
 
 -- a key and its value, as an entry
 abbrev pub entry_at : List ℕ → List ℕ → Entry

@@ -2,9 +2,10 @@
 use Rattle.std.specs.Prelude.{◌≡◌, ℕ, zero, suc, ◌+◌, ◌^◌, ◌<◌, ◌≤◌, ◌⊎◌, ⊤, Bool, false, List, []}
 use Rattle.std.specs.Prelude.{◌∷◌, map, take, length, Option, Some, None}
 use Rattle.page.specs.Content.{Place, Item, Pivot, IsPlace, place_size}
-use Rattle.btree.specs.Keys.{Pair, Each, IsUnder, Rises, IsBetween}
-use Rattle.btree.specs.Tree.{with_low, Subtree, Body, IsFan, IsWhole, IsSound, pivot_of, item_of}
-use Rattle.btree.specs.Tree.{pair_keys, subtree_keys}
+use Rattle.tree_model.specs.Keys.{Pair, Each, IsUnder, Rises, IsBetween}
+use Rattle.tree_model.specs.Tree.{with_low, Subtree, Body, IsFan, IsWhole, IsSound, pivot_of}
+use Rattle.tree_model.specs.Tree.{item_of}
+use Rattle.tree_model.specs.Tree.{pair_keys, subtree_keys}
 
 -- what stands beside a key: a value's place, or a page
 pub data Load : Type 0 where

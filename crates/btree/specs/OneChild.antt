@@ -3,9 +3,9 @@ use Rattle.std.specs.Prelude.{◌≡◌, ℕ, ◌+◌, ◌<◌, ◌≤◌, List,
 use Rattle.std.specs.Prelude.{slice_index_or, take, drop}
 use Rattle.page.specs.Content.{Pivot}
 use Rattle.btree.specs.Change.{IsBehind}
-use Rattle.btree.specs.Keys.{Each, Edit, Entry, IsNotUnder, IsUnder, IsWithin, times}
+use Rattle.tree_model.specs.Keys.{Each, Edit, Entry, IsNotUnder, IsUnder, IsWithin, times}
 use Rattle.btree.specs.Loose.{Load, Slot, pivot_slot, child, under_key}
-use Rattle.btree.specs.Store.{Store}
+use Rattle.tree_model.specs.Store.{Store}
 use Rattle.btree.specs.Turn.{IsHeld, IsUpTo, NodeModel}
 
 -- All edits belong to the child at this place.

@@ -5,8 +5,8 @@ use Rattle.btree.specs.declared.scanning.Entry.{Entry as KeptEntry}
 use Rattle.btree.specs.declared.scanning.Batch.{Batch}
 use Rattle.btree.specs.declared.scanning.Filling.{Filling}
 use Rattle.btree.specs.declared.scanning.Range.{Range}
-use Rattle.btree.specs.Keys.{Entry, window}
-use Rattle.btree.specs.Calls.{IsBatch}
+use Rattle.tree_model.specs.Keys.{Entry, window}
+use Rattle.tree_model.specs.Calls.{IsBatch}
 
 abbrev pub entry_in : KeptEntry → Entry
 entry_in e = record { key = e.key.items; value = e.value.items }

@@ -4,13 +4,13 @@ use Rattle.std.specs.Prelude.{◌≡◌, ℕ, suc, ◌+◌, ◌^◌, ◌<◌, �
 use Rattle.std.specs.Prelude.{length, map, Option, Some, None, Result}
 use Rattle.btree.specs.declared.node.LooseNode.{LooseNode}
 use Rattle.btree.specs.declared.node.LooseSlot.{LooseSlot}
-use Rattle.btree.specs.declared.pages.TreeFault.{TreeFault}
-use Rattle.btree.specs.Calls.{Yields}
-use Rattle.btree.specs.Keys.{Each, Entry, IsNotUnder, times}
+use Rattle.tree_model.specs.declared.pages.TreeFault.{TreeFault}
+use Rattle.tree_model.specs.Calls.{Yields}
+use Rattle.tree_model.specs.Keys.{Each, Entry, IsNotUnder, times}
 use Rattle.btree.specs.Loose.{IsSpread, IsSlot, Slot, bare, child, first_or, slots_of}
 use Rattle.btree.specs.LooseView.{slot_in}
-use Rattle.btree.specs.Store.{Store, Frame, IsAt}
-use Rattle.btree.specs.Tree.{Body, Shows, content_of, entries_of, pages_of}
+use Rattle.tree_model.specs.Store.{Store, Frame, IsAt}
+use Rattle.tree_model.specs.Tree.{Body, Shows, content_of, entries_of, pages_of}
 
 -- cells or children, and how high above all pages they stand
 pub record NodeModel : Type 0 where
@@ -33,12 +33,6 @@ pub record IsHeld (s : Store) (base : ℕ) (low : List ℕ) (high : Option (List
   pub shown : Shows s d body
   pub entries_are : entries_of d body ≡ entries
   pub pages_are : (n : ℕ) → times n (pages_of d body) ≡ times n pages
-
--- The pages reached now are those reached before, less those retired, with those made.
-abbrev pub AreTurned : Store → Store → List ℕ → List ℕ → Type 0
-AreTurned old new before after =
-    (n : ℕ) → times n after + times n new.retired + times n old.made ≡ times n before
-    + times n old.retired + times n new.made
 
 pub record IsTurned (old new : Store) (base : ℕ) (low : List ℕ) (high : Option (List ℕ))
     (entries : List Entry) (before : List ℕ) (model : NodeModel) : Type 0 where

@@ -1,16 +1,16 @@
 // Values that lie in chains of pages.
 ghost use Rattle.std.specs.Prelude.{◌≡◌, ◌*◌, ◌+◌, ◌<◌, ◌≤◌, ℕ, List, length, IfErr};
 ghost use Rattle.btree.specs.Few.{Costs, chain_pages};
-ghost use Rattle.btree.specs.Keys.{Pair};
-ghost use Rattle.btree.specs.Reading.{IsNotFull};
-ghost use Rattle.btree.specs.Store.{Grows, IsSame, KeepsWord, Store};
-ghost use Rattle.btree.specs.Tree.{HasLinks, HasChain, next_of, place_of};
-ghost use Rattle.btree.specs.View.{place_in};
-ghost use Rattle.btree.specs.Calls.{Reads, Retires, WritesChain};
+ghost use Rattle.tree_model.specs.Keys.{Pair};
+ghost use Rattle.tree_model.specs.Reading.{IsNotFull};
+ghost use Rattle.tree_model.specs.Store.{Grows, IsSame, KeepsWord, Store};
+ghost use Rattle.tree_model.specs.Tree.{HasLinks, HasChain, next_of, place_of};
+ghost use Rattle.tree_model.specs.View.{place_in};
+ghost use Rattle.tree_model.specs.Calls.{Reads, Retires, WritesChain};
 
-use crate::{Pages, TreeFault};
 use page::{PageContent, Stored};
 use std::alloc::Global;
+use tree_model::{Pages, TreeFault};
 
 /// The most bytes of a value in one page of its chain.
 pub(crate) const LINK: usize = 4076;

@@ -1,33 +1,33 @@
 // A change by a list of edits, from a page down.
 ghost use Rattle.std.specs.Prelude.{◌≡◌, ◌<◌, ◌≤◌, ◌+◌, ◌-◌, ◌*◌, ◌++◌, ◌∷◌, [], ℕ, zero, min, List, Option, Some, None, Ok, drop, length, map, slice_index_or, IfErr, IfOk};
 ghost use Rattle.page.specs.Content.{IsBranch};
-ghost use Rattle.btree.specs.Change.{BeginsAt, edit_keys};
-ghost use Rattle.btree.specs.EditView.{HasRoom, edit_in};
+ghost use Rattle.tree_model.specs.Keys.{edit_keys};
+ghost use Rattle.btree.specs.Change.{BeginsAt};
+ghost use Rattle.tree_model.specs.EditView.{HasRoom, edit_in};
 ghost use Rattle.btree.specs.Few.{IsFew, IsFewOrOne, IsLittle, GivesFew, GivesFewOrOne, edit_pages};
-ghost use Rattle.btree.specs.Keys.{Each, Entry, IsBetween, IsNotUnder, IsUnder, Pair, Rises, change, entry_of, sum_of};
+ghost use Rattle.tree_model.specs.Keys.{Each, Entry, IsBetween, IsNotUnder, IsUnder, Pair, Rises, change, entry_of, sum_of};
 ghost use Rattle.btree.specs.Loose.{Slot, pivot_slot, first_or, slots_size, under_key};
 ghost use Rattle.btree.specs.LooseView.{slot_in};
 ghost use Rattle.btree.specs.OneChild.{AreAt, IsAmid, IsAround, slots_between};
-ghost use Rattle.btree.specs.Store.{Grows, IsAt, Store};
-ghost use Rattle.btree.specs.Tree.{Body, IsSound, IsWhole, Shows, content_of, entries_of, item_of, pages_of};
+ghost use Rattle.tree_model.specs.Store.{Grows, IsAt, Store};
+ghost use Rattle.tree_model.specs.Tree.{Body, IsSound, IsWhole, Shows, content_of, entries_of, item_of, pages_of};
 ghost use Rattle.btree.specs.Turn.{IsHeld, IsUpTo, Turns, model_in};
-ghost use Rattle.btree.specs.declared.pages.TreeFault.TheVariants.{Memory};
+ghost use Rattle.tree_model.specs.declared.pages.TreeFault.TheVariants.{Memory};
 
-use crate::editing::{Edit, edit_cells};
+use crate::editing::edit_cells;
 use crate::in_page::{edit_page, has_room, write_leaf};
 use crate::joining::QUARTER;
 use crate::node::{LooseNode, LooseSlot, loose_slots_of_cells, page_below};
 use crate::one_child::{
     child_of_all, go_between, page_of_one, place_behind, write_between, write_branch,
 };
-use crate::search::{branch_child, leaf_key, low_bound};
 use crate::settling::settle;
 use crate::taking_apart::{children_between, leaf_cells, loose_slots_of_branch};
-use crate::{Pages, TreeFault};
 use key_order::compare_keys;
 use page::{Branch, Leaf, PageContent};
 use std::alloc::Global;
 use std::cmp::Ordering;
+use tree_model::{Edit, Pages, TreeFault, branch_child, leaf_key, low_bound};
 
 // The first edit whose key isn't below this one.
 fn edits_from(edits: &[Edit<'_>], key: &[u8]) -> usize

@@ -1,7 +1,7 @@
 // Cutting cells and children into pages, by bytes.
 ghost use Rattle.std.specs.Prelude.{◌≡◌, ◌<◌, ◌≤◌, ◌+◌, ◌-◌, ◌^◌, ◌⊎◌, ℕ, false, true, List, length, map, take, drop, None, slice_index_or};
 ghost use Rattle.btree.specs.Few.{IsFullPart};
-ghost use Rattle.btree.specs.Keys.{Each};
+ghost use Rattle.tree_model.specs.Keys.{Each};
 ghost use Rattle.btree.specs.Loose.{GoBehind, IsOver, IsPart, IsSlot, Slot, slot_size, slots_size};
 ghost use Rattle.btree.specs.LooseView.{slot_in};
 ghost use Rattle.std.specs.Option.{option_map};

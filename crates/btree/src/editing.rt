@@ -1,22 +1,22 @@
 // Edits of the cells of a leaf.
 ghost use Rattle.std.specs.Prelude.{◌≡◌, ◌∷◌, [], ◌+◌, ◌*◌, ◌≤◌, ◌<◌, ◌^◌, List, length, map, IfOk, zero};
 ghost use Rattle.page.specs.Content.{IsItem, item_size, place_size, spilled, total};
-ghost use Rattle.btree.specs.Calls.{IsSmallPlace};
+ghost use Rattle.tree_model.specs.Calls.{IsSmallPlace};
 ghost use Rattle.btree.specs.Few.{Costs, chain_pages, edit_pages, value_room};
-ghost use Rattle.btree.specs.Keys.{Each, Pair, Rises, sum_of};
-ghost use Rattle.btree.specs.Store.{Store, Grows};
-ghost use Rattle.btree.specs.Tree.{HasChain, Shows, item_of, pair_keys, place_of};
-ghost use Rattle.btree.specs.View.{item_in, place_in};
-ghost use Rattle.btree.specs.Search.{IsPlace};
-ghost use Rattle.btree.specs.EditView.{HasRoom, edit_in};
-ghost use Rattle.btree.specs.Calls.{Edits, PutsIn, Retires, StoresValue, TakesOut};
+ghost use Rattle.tree_model.specs.Keys.{Each, Pair, Rises, sum_of};
+ghost use Rattle.tree_model.specs.Store.{Store, Grows};
+ghost use Rattle.tree_model.specs.Tree.{HasChain, Shows, item_of, pair_keys, place_of};
+ghost use Rattle.tree_model.specs.View.{item_in, place_in};
+ghost use Rattle.tree_model.specs.Search.{IsPlace};
+ghost use Rattle.tree_model.specs.EditView.{HasRoom, edit_in};
+ghost use Rattle.tree_model.specs.Calls.{Edits, PutsIn, Retires, StoresValue, TakesOut};
 
 use crate::chain::{retire_chain, write_chain};
-use crate::{Pages, TreeFault};
 use key_order::compare_keys;
 use page::{Cell, Stored};
 use std::alloc::Global;
 use std::cmp::Ordering;
+use tree_model::{Edit, Pages, TreeFault};
 
 // The first cell whose key isn't below this one.
 fn place_among(cells: &[Cell<'_>], key: &[u8]) -> usize
@@ -79,13 +79,6 @@ fn take_out<P: Pages>(
     retire_value(pages, cell.stored)?;
     cells.remove(at);
     Ok(at)
-}
-
-/// A change at a key: a value that is put there, or none, where the key is removed.
-#[derive(Clone, Copy)]
-pub struct Edit<'a> {
-    pub key: &'a [u8],
-    pub value: Option<&'a [u8]>,
 }
 
 /// The longest value that lies in its cell, in bytes.

@@ -1,22 +1,21 @@
 // Entries of a range in ascending order of their keys, lent one after the other while their leaf is borrowed.
 ghost use Rattle.std.specs.Prelude.{◌≡◌, ◌++◌, ◌∷◌, [], Ok, ℕ, zero, length, List, map, false, true, OnOk, IfErr};
 ghost use Rattle.std.specs.Option.{option_map};
-ghost use Rattle.btree.specs.Keys.{Pair, Rises, entry_of, Entry};
-ghost use Rattle.btree.specs.Reading.{IsNotFull};
-ghost use Rattle.btree.specs.Store.{Grows, IsSame, KeepsWord, Store};
-ghost use Rattle.btree.specs.Tree.{Body, HasChain, HasLinks, IsTree, Shows, entries_of, item_of, next_of, pair_keys};
-ghost use Rattle.btree.specs.View.{item_in};
-ghost use Rattle.btree.specs.Calls.{IsPart, Yields};
+ghost use Rattle.tree_model.specs.Keys.{Pair, Rises, entry_of, Entry};
+ghost use Rattle.tree_model.specs.Reading.{IsNotFull};
+ghost use Rattle.tree_model.specs.Store.{Grows, IsSame, KeepsWord, Store};
+ghost use Rattle.tree_model.specs.Tree.{Body, HasChain, HasLinks, IsTree, Shows, entries_of, item_of, next_of, pair_keys};
+ghost use Rattle.tree_model.specs.View.{item_in};
+ghost use Rattle.tree_model.specs.Calls.{IsPart, Yields};
 ghost use Rattle.btree.specs.Fold.{HasTaken, between, entry_at};
 
 use crate::chain::chain_bytes;
-use crate::search::{
-    branch_child, child_of_key, high_bound, is_within, leaf_cell, lies_between, low_bound,
-    place_of_end, place_of_key,
-};
-use crate::{Pages, TreeFault};
 use page::{Cell, Leaf, PageContent, Stored};
 use std::alloc::{AllocError, Global};
+use tree_model::{
+    Pages, TreeFault, branch_child, child_of_key, high_bound, is_within, leaf_cell, lies_between,
+    low_bound, place_of_end, place_of_key,
+};
 
 /// Keys from one up to below another, or to the end.
 #[derive(Clone, Copy)]
@@ -28,7 +27,7 @@ pub struct Bounds<'a> {
 /// What is made of entries that are lent one after the other, in ascending order of their keys.
 pub trait Fold {
     ghost use Rattle.std.specs.Prelude.{List};
-    ghost use Rattle.btree.specs.Keys.{Entry};
+    ghost use Rattle.tree_model.specs.Keys.{Entry};
 
     /// What some entries make of it: how it was before them, and how it is behind them.
     ghost makes: { Self → List Entry → Self → Type 0 };

@@ -2,26 +2,25 @@
 ghost use Rattle.std.specs.Prelude.{◌≡◌, ◌∷◌, [], ◌+◌, ◌≤◌, ◌<◌, ◌^◌, ℕ, List, Option, Some, zero, length, map, true, IfOk};
 ghost use Rattle.std.specs.Option.{option_map, unwrap_or};
 ghost use Rattle.page.specs.Content.{IsLeaf, item_size, total};
-ghost use Rattle.btree.specs.Calls.{IsEdited, IsPutIn, IsTakenOut, Yields};
-ghost use Rattle.btree.specs.EditView.{HasRoom, edit_in};
+ghost use Rattle.tree_model.specs.Calls.{IsEdited, IsPutIn, IsTakenOut, Yields};
+ghost use Rattle.tree_model.specs.EditView.{HasRoom, edit_in};
 ghost use Rattle.btree.specs.Few.{Costs, GivesFewOrOne, chain_pages, edit_pages, edit_room, put_room};
-ghost use Rattle.btree.specs.Keys.{Each, Pair, Rises, entry_of, sum_of};
-ghost use Rattle.btree.specs.Search.{IsGap};
-ghost use Rattle.btree.specs.Store.{Grows, Store};
-ghost use Rattle.btree.specs.Tree.{IsSound, Shows, item_of, pages_of, pair_keys};
+ghost use Rattle.tree_model.specs.Keys.{Each, Pair, Rises, entry_of, sum_of};
+ghost use Rattle.tree_model.specs.Search.{IsGap};
+ghost use Rattle.tree_model.specs.Store.{Grows, Store};
+ghost use Rattle.tree_model.specs.Tree.{IsSound, Shows, item_of, pages_of, pair_keys};
 ghost use Rattle.btree.specs.Turn.{Turns};
 
 use crate::cutting::ROOM;
-use crate::editing::{Edit, INLINE, retire_value, stored_value};
+use crate::editing::{INLINE, retire_value, stored_value};
 use crate::joining::LITTLE;
 use crate::node::{LooseNode, push_loose_slot};
 use crate::parts::child_loose_slot;
-use crate::search::{leaf_cell, leaf_key, place_of_key};
 use crate::taking_apart::loose_slots_of_leaf;
-use crate::{Pages, TreeFault};
 use key_order::compare_keys;
 use page::{Cell, Leaf, PageContent};
 use std::alloc::{AllocError, Global};
+use tree_model::{Edit, Pages, TreeFault, leaf_cell, leaf_key, place_of_key};
 
 // The bytes of a cell of this key and value; none where there is no value.
 fn cell_bytes(key: &[u8], value: Option<&[u8]>) -> usize

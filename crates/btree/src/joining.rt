@@ -2,17 +2,17 @@
 ghost use Rattle.std.specs.Prelude.{◌≡◌, ◌<◌, ◌≤◌, ◌+◌, ◌++◌, ◌∷◌, ℕ, List, Option, Some, false, true, length, map, IfErr, IfOk, MatchResult};
 ghost use Rattle.btree.specs.Change.{IsBehind};
 ghost use Rattle.btree.specs.Few.{AreFewOff, IsLittle, GivesFew, JoinsFew, MakesUpTo};
-ghost use Rattle.btree.specs.Keys.{Each, Entry, IsNotUnder};
+ghost use Rattle.tree_model.specs.Keys.{Each, Entry, IsNotUnder};
 ghost use Rattle.btree.specs.Loose.{IsSlot, slots_size};
 ghost use Rattle.btree.specs.LooseView.{slot_in};
-ghost use Rattle.btree.specs.Store.{Grows, KeepsWord, Store};
+ghost use Rattle.tree_model.specs.Store.{Grows, KeepsWord, Store};
 ghost use Rattle.btree.specs.Turn.{GoesBefore, IsHeld, IsJoined, IsReady, IsUpTo, PartsFirst, PartsLast, Turns, model_in};
 
 use crate::cutting::{ROOM, THIRD, loose_slots_within};
 use crate::node::{LooseNode, LooseSlot, page_below};
 use crate::taking_apart::{concat, open_page, raise};
-use crate::{Pages, TreeFault};
 use std::alloc::Global;
+use tree_model::{Pages, TreeFault};
 
 /// A quarter of a page, in bytes: children that have less are joined with what is beside them.
 pub(crate) const QUARTER: usize = 1020;

@@ -1,21 +1,21 @@
 // The value at a key.
 ghost use Rattle.std.specs.Prelude.{◌≡◌, None, Ok, ℕ, zero, List, map, IfErr};
 ghost use Rattle.std.specs.Option.{option_map};
-ghost use Rattle.btree.specs.Keys.{IsBetween, Pair, Rises, entry_of, find};
-ghost use Rattle.btree.specs.Reading.{IsNotFull};
-ghost use Rattle.btree.specs.Store.{Grows, IsSame, KeepsWord, Store};
-ghost use Rattle.btree.specs.Tree.{Body, IsTree, Shows, entries_of, item_of, pair_keys};
-ghost use Rattle.btree.specs.View.{item_in};
-ghost use Rattle.btree.specs.Calls.{IsPart, IsPlaceOf, Looks};
+ghost use Rattle.tree_model.specs.Keys.{IsBetween, Pair, Rises, entry_of, find};
+ghost use Rattle.tree_model.specs.Reading.{IsNotFull};
+ghost use Rattle.tree_model.specs.Store.{Grows, IsSame, KeepsWord, Store};
+ghost use Rattle.tree_model.specs.Tree.{Body, IsTree, Shows, entries_of, item_of, pair_keys};
+ghost use Rattle.tree_model.specs.View.{item_in};
+ghost use Rattle.tree_model.specs.Calls.{IsPart, IsPlaceOf, Looks};
 
 use crate::chain::value_bytes;
-use crate::search::{
-    branch_child, child_of_key, high_bound, leaf_cell, lies_between, low_bound, place_of_key,
-};
-use crate::{Pages, TreeFault};
 use key_order::compare_keys;
 use page::{Leaf, PageContent, Stored};
 use std::alloc::Global;
+use tree_model::{
+    Pages, TreeFault, branch_child, child_of_key, high_bound, leaf_cell, lies_between, low_bound,
+    place_of_key,
+};
 
 // Where the value at the key lies, in a leaf.
 fn stored_at<'a>(leaf: &'a Leaf, key: &[u8]) -> Option<Stored<'a>>

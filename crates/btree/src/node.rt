@@ -3,12 +3,12 @@ ghost use Rattle.std.specs.Prelude.{◌≡◌, ◌∷◌, [], ℕ, true, List, l
 ghost use Rattle.page.specs.Content.{Pivot};
 ghost use Rattle.btree.specs.Loose.{IsChild, pivot_slot, child, item_slot};
 ghost use Rattle.btree.specs.LooseView.{slot_in};
-ghost use Rattle.btree.specs.declared.pages.TreeFault.TheVariants.{Memory};
-ghost use Rattle.btree.specs.View.{item_in, pivot_in};
+ghost use Rattle.tree_model.specs.declared.pages.TreeFault.TheVariants.{Memory};
+ghost use Rattle.tree_model.specs.View.{item_in, pivot_in};
 
-use crate::TreeFault;
 use page::{Cell, Child, Stored};
 use std::alloc::{AllocError, Global};
+use tree_model::TreeFault;
 
 /// What stands beside a key.
 #[derive(Drop)]

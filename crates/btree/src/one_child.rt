@@ -2,27 +2,25 @@
 ghost use Rattle.std.specs.Prelude.{◌≡◌, ◌<◌, ◌≤◌, ◌+◌, ◌-◌, ◌∷◌, ◌++◌, [], ⊤, ℕ, true, min, List, Option, length, map, slice_index_or, MatchOption};
 ghost use Rattle.page.specs.ChildPage.{exchanged};
 ghost use Rattle.page.specs.Content.{Pivot, IsBranch};
-ghost use Rattle.btree.specs.Change.{edit_keys};
-ghost use Rattle.btree.specs.EditView.{edit_in};
+ghost use Rattle.tree_model.specs.Keys.{edit_keys};
+ghost use Rattle.tree_model.specs.EditView.{edit_in};
 ghost use Rattle.btree.specs.Few.{GivesFew};
-ghost use Rattle.btree.specs.Keys.{Entry, IsUnder, Rises};
+ghost use Rattle.tree_model.specs.Keys.{Entry, IsUnder, Rises};
 ghost use Rattle.btree.specs.Loose.{Slot, pivot_slot, under_key};
 ghost use Rattle.btree.specs.LooseView.{slot_in};
 ghost use Rattle.btree.specs.OneChild.{AreAt, IsAmid, IsAround, IsPageOf};
-ghost use Rattle.btree.specs.Store.{Grows, Store};
+ghost use Rattle.tree_model.specs.Store.{Grows, Store};
 ghost use Rattle.btree.specs.Turn.{IsHeld, NodeModel, Turns, model_in};
 
 use crate::cutting::{ROOM, THIRD, go_into_page, is_over, loose_slots_within};
-use crate::editing::Edit;
 use crate::joining::QUARTER;
 use crate::node::{LooseNode, LooseSlot, page_below, push_loose_slot};
 use crate::parts::{child_loose_slot, children_of};
-use crate::search::{branch_key, child_of_key, high_bound, is_within};
-use crate::{Pages, TreeFault};
 use key_order::compare_keys;
 use page::{Branch, PageContent};
 use std::alloc::Global;
 use std::cmp::Ordering;
+use tree_model::{Edit, Pages, TreeFault, branch_key, child_of_key, high_bound, is_within};
 
 /// The child that all edits belong to, if there is one.
 pub(crate) fn child_of_all(branch: &Branch, edits: &[Edit<'_>]) -> Option<usize>

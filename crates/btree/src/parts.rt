@@ -4,19 +4,19 @@ ghost use Rattle.page.specs.Content.{Pivot, Item, branch as branch_content, leaf
 ghost use Rattle.page.specs.Format.{IsFit};
 ghost use Rattle.btree.specs.Few.{AreFewPages, IsOnePage, MakesUpTo, WritesUpTo};
 ghost use Rattle.btree.specs.Loose.{GoBehind, IsEnough, IsSpread, IsSlot, pivot_slot, bare, bare_pivots, item_slot, slots_of, slots_size};
-ghost use Rattle.btree.specs.Store.{Store, Grows, KeepsWord};
-ghost use Rattle.btree.specs.Tree.{Body, Shows, content_of};
+ghost use Rattle.tree_model.specs.Store.{Store, Grows, KeepsWord};
+ghost use Rattle.tree_model.specs.Tree.{Body, Shows, content_of};
 ghost use Rattle.btree.specs.Turn.{MayFill, WritesPart, WritesParts};
-ghost use Rattle.btree.specs.Keys.{Each};
+ghost use Rattle.tree_model.specs.Keys.{Each};
 ghost use Rattle.btree.specs.LooseView.{slot_in};
-ghost use Rattle.btree.specs.View.{pivot_in, content_in, item_in};
-ghost use Rattle.btree.specs.declared.pages.TreeFault.TheVariants.{Memory};
+ghost use Rattle.tree_model.specs.View.{pivot_in, content_in, item_in};
+ghost use Rattle.tree_model.specs.declared.pages.TreeFault.TheVariants.{Memory};
 
 use crate::cutting::{go_into_page, part_len};
 use crate::node::{LooseSlot, Payload, push_loose_slot};
-use crate::{Pages, TreeFault};
 use page::{Branch, Cell, Child, Leaf, PageContent, Stored};
 use std::alloc::{AllocError, Global};
+use tree_model::{Pages, TreeFault};
 
 // A cell, as a view.
 fn cell_of(loose_slot: &LooseSlot) -> Result<Cell<'_>, TreeFault>

@@ -1,26 +1,26 @@
 // A change of a whole tree, which gives a new root.
 ghost use Rattle.std.specs.Prelude.{◌≡◌, ◌≤◌, ◌<◌, ◌+◌, ◌*◌, ◌-◌, ◌^◌, ◌∷◌, [], ℕ, List, Option, None, length, map, IfNone, IfOk, IfSome, IfErr};
-ghost use Rattle.btree.specs.Calls.{IsPart, Yields};
-ghost use Rattle.btree.specs.Change.{Changes, edit_keys, put, removal};
-ghost use Rattle.btree.specs.EditView.{HasRoom, edit_in};
+ghost use Rattle.tree_model.specs.Calls.{IsPart, Yields};
+ghost use Rattle.tree_model.specs.Keys.{edit_keys, put, removal};
+ghost use Rattle.btree.specs.Change.{Changes};
+ghost use Rattle.tree_model.specs.EditView.{HasRoom, edit_in};
 ghost use Rattle.btree.specs.Few.{Costs, EndsTop, IsLittle, IsOneChild, GivesFew, chain_pages, edit_pages, levels_of};
-ghost use Rattle.btree.specs.Keys.{Each, Entry, Rises, change, sum_of};
+ghost use Rattle.tree_model.specs.Keys.{Each, Entry, Rises, change, sum_of};
 ghost use Rattle.btree.specs.Loose.{IsChild, Slot, child};
 ghost use Rattle.btree.specs.LooseView.{slot_in};
-ghost use Rattle.btree.specs.Reach.{HasMap};
-ghost use Rattle.btree.specs.Reading.{IsNotFull};
-ghost use Rattle.btree.specs.Store.{Grows, IsSame, KeepsWord, Store};
-ghost use Rattle.btree.specs.Tree.{Body};
+ghost use Rattle.tree_model.specs.Reach.{HasMap};
+ghost use Rattle.tree_model.specs.Reading.{IsNotFull};
+ghost use Rattle.tree_model.specs.Store.{Grows, IsSame, KeepsWord, Store};
+ghost use Rattle.tree_model.specs.Tree.{Body};
 ghost use Rattle.btree.specs.Turn.{IsHeld, Turns, model_in};
 
 use crate::changing::change_below;
-use crate::editing::{Edit, edit_cells};
+use crate::editing::edit_cells;
 use crate::node::{LooseNode, loose_slots_of_cells, page_below};
-use crate::search::branch_child;
 use crate::taking_apart::raise;
-use crate::{Pages, TreeFault};
 use page::PageContent;
 use std::alloc::Global;
+use tree_model::{Edit, Pages, TreeFault, branch_child};
 
 /// The most levels of a tree.
 const LEVELS: u32 = 32;

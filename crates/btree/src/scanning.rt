@@ -1,17 +1,17 @@
 // Entries in ascending order of their keys, a batch at a time.
 ghost use Rattle.std.specs.Prelude.{◌≡◌, ◌++◌, ◌∷◌, [], Ok, ℕ, List, MatchResult, false, true, IfErr};
 ghost use Rattle.btree.specs.Fold.{entry_at};
-ghost use Rattle.btree.specs.Keys.{Entry as MapEntry};
-ghost use Rattle.btree.specs.Reading.{IsNotFull};
-ghost use Rattle.btree.specs.Store.{Grows, IsSame, KeepsWord, Store};
-ghost use Rattle.btree.specs.Tree.{Body, IsTree, entries_of};
-ghost use Rattle.btree.specs.Calls.{Yields};
+ghost use Rattle.tree_model.specs.Keys.{Entry as MapEntry};
+ghost use Rattle.tree_model.specs.Reading.{IsNotFull};
+ghost use Rattle.tree_model.specs.Store.{Grows, IsSame, KeepsWord, Store};
+ghost use Rattle.tree_model.specs.Tree.{Body, IsTree, entries_of};
+ghost use Rattle.tree_model.specs.Calls.{Yields};
 ghost use Rattle.btree.specs.declared.scanning.Filling.{Filling};
 ghost use Rattle.btree.specs.Scan.{Fills, HasRoom, HoldsBatch, within};
 
 use crate::folding::{Bounds, Fold, fold_entries};
-use crate::{Pages, TreeFault};
 use std::alloc::{AllocError, Global};
+use tree_model::{Pages, TreeFault};
 
 /// A key and its value.
 #[derive(Drop)]

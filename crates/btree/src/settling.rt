@@ -1,20 +1,20 @@
 // What was below one child of a branch, back among its neighbours.
 ghost use Rattle.std.specs.Prelude.{◌≡◌, ◌<◌, ◌++◌, ⊤, ℕ, List, Option, Some, true, length, IfErr, IfOk};
 ghost use Rattle.page.specs.Content.{Content};
-ghost use Rattle.btree.specs.Calls.{Yields};
+ghost use Rattle.tree_model.specs.Calls.{Yields};
 ghost use Rattle.btree.specs.Change.{IsBehind};
 ghost use Rattle.btree.specs.Few.{SettlesFew};
-ghost use Rattle.btree.specs.Keys.{Entry, IsNotUnder};
+ghost use Rattle.tree_model.specs.Keys.{Entry, IsNotUnder};
 ghost use Rattle.btree.specs.Loose.{child};
 ghost use Rattle.btree.specs.LooseView.{slot_in};
-ghost use Rattle.btree.specs.Store.{Grows, HasCause, IsAt, IsSame, KeepsWord};
+ghost use Rattle.tree_model.specs.Store.{Grows, HasCause, IsAt, IsSame, KeepsWord};
 ghost use Rattle.btree.specs.Turn.{IsHeld, IsUpTo, Turns, model_in};
 
 use crate::joining::{is_full, meet, meet_behind};
 use crate::node::{LooseNode, LooseSlot, page_below};
-use crate::{Pages, TreeFault};
 use page::PageContent;
 use std::alloc::Global;
+use tree_model::{Pages, TreeFault};
 
 // The bytes that the page of a child has.
 fn bytes_below<P: Pages>(pages: &mut P, loose_slot: &LooseSlot) -> Result<usize, TreeFault>

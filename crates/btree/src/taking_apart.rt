@@ -1,23 +1,22 @@
 // Taking pages apart, and putting what was taken apart together.
 ghost use Rattle.std.specs.Prelude.{◌≡◌, ◌<◌, ◌≤◌, ◌+◌, ◌++◌, ◌∷◌, ℕ, List, Option, length, map, IfErr, IfOk, MatchResult};
 ghost use Rattle.page.specs.Content.{Pivot, IsBranch, IsLeaf, Item};
-ghost use Rattle.btree.specs.Keys.{Each, Entry};
+ghost use Rattle.tree_model.specs.Keys.{Each, Entry};
 ghost use Rattle.btree.specs.Few.{AreFewPages, GivesFew, WritesUpTo};
 ghost use Rattle.btree.specs.Loose.{IsSlot, pivot_slot, item_slot, lowered, slots_of, slots_size, under_key};
 ghost use Rattle.btree.specs.LooseView.{slot_in};
 ghost use Rattle.btree.specs.OneChild.{slots_between};
-ghost use Rattle.btree.specs.Store.{Grows, IsAt, KeepsWord, Store};
-ghost use Rattle.btree.specs.Tree.{Body, IsSound, IsWhole, Shows, content_of, entries_of, pages_of};
+ghost use Rattle.tree_model.specs.Store.{Grows, IsAt, KeepsWord, Store};
+ghost use Rattle.tree_model.specs.Tree.{Body, IsSound, IsWhole, Shows, content_of, entries_of, pages_of};
 ghost use Rattle.btree.specs.Turn.{IsHeld, IsReady, MayFill, Opens, PartsFirst, PartsLast, Turns, model_in};
-ghost use Rattle.btree.specs.View.{content_in, item_in};
-ghost use Rattle.btree.specs.declared.pages.TreeFault.TheVariants.{Memory};
+ghost use Rattle.tree_model.specs.View.{content_in, item_in};
+ghost use Rattle.tree_model.specs.declared.pages.TreeFault.TheVariants.{Memory};
 
 use crate::node::{LooseNode, LooseSlot, loose_slot_of_cell, loose_slot_of_page, push_loose_slot};
 use crate::parts::{push_cell, write_parts};
-use crate::search::{branch_child, leaf_cell, low_bound};
-use crate::{Pages, TreeFault};
 use page::{Branch, Cell, Leaf, PageContent};
 use std::alloc::Global;
+use tree_model::{Pages, TreeFault, branch_child, leaf_cell, low_bound};
 
 /// The cells of a leaf.
 pub(crate) fn leaf_cells(alloc: Global, leaf: &Leaf) -> Result<Vec<Cell<'_>>, TreeFault>

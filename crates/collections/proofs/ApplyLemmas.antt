@@ -4,11 +4,11 @@ use Rattle.std.specs.Prelude.{◌==◌, not, Ok, Err}
 use Rattle.std.proofs.lemmas.Bool.Decides.{nat_tests}
 use Rattle.page.specs.History.{History, KeepsWord}
 use Rattle.btree.specs.Change.{IsChanged, IsTooHigh}
-use Rattle.btree.specs.Keys.{Edit, Entry, change}
-use Rattle.btree.specs.Store.{Grows, HasCause as HasTreeCause}
-use Rattle.btree.specs.declared.pages.TreeFault.{TreeFault}
-use Rattle.btree.specs.declared.pages.TreeFault.TheVariants as faults
-use Rattle.btree.proofs.StoreLemmas.{grows_itself}
+use Rattle.tree_model.specs.Keys.{Edit, Entry, change}
+use Rattle.tree_model.specs.Store.{Grows, HasCause as HasTreeCause}
+use Rattle.tree_model.specs.declared.pages.TreeFault.{TreeFault}
+use Rattle.tree_model.specs.declared.pages.TreeFault.TheVariants as faults
+use Rattle.tree_model.proofs.StoreLemmas.{grows_itself}
 use Rattle.path.specs.declared.refusal.Refusal.TheVariants as refusals
 use Rattle.pager.specs.State.{State as PagerState}
 use Rattle.pager.specs.Turn.{IsOrderly, Returns, undone_to}

@@ -11,9 +11,9 @@ use Rattle.std.proofs.lemmas.Cmp.{nat_cmp_total, tied_itself}
 use Rattle.std.proofs.lemmas.List.{take-append-drop}
 use Rattle.std.proofs.lemmas.Map.Lookups.{exact_bytes, exact_unsigned}
 use Rattle.std.proofs.Math.Seq.{drop-append_seam}
-use Rattle.btree.specs.Keys.{Each, Entry, IsUnder, Rises, is_within, key_cmp}
-use Rattle.btree.specs.Calls.{IsBatch}
-use Rattle.btree.proofs.KeyLemmas.{not_under_itself, under_trans}
+use Rattle.tree_model.specs.Keys.{Each, Entry, IsUnder, Rises, is_within, key_cmp}
+use Rattle.tree_model.specs.Calls.{IsBatch}
+use Rattle.tree_model.proofs.KeyLemmas.{not_under_itself, under_trans}
 use Rattle.entries.specs.OtherKeys.{IsEndOf}
 use Rattle.entries.specs.StateEntries.{entry_keys}
 use Rattle.entries.proofs.FrontLemmas.{starts_so, starts_there}

@@ -2,11 +2,11 @@
 use Rattle.std.proofs.Common.{◌≡◌, ℕ, false, true, List, refl, sym, ◌∙◌, subst, inl, inr}
 use Rattle.std.specs.Prelude.{Bool, Result, Ok, Err, IfErr, IsErrAnd, MatchResult}
 use Rattle.page.specs.History.{History, KeepsWord}
-use Rattle.btree.specs.Keys.{Entry}
-use Rattle.btree.specs.Reading.{IsNotFull}
-use Rattle.btree.specs.Store.{HasCause as HasTreeCause}
-use Rattle.btree.specs.declared.pages.TreeFault.{TreeFault}
-use Rattle.btree.proofs.StoreLemmas.{grows_itself}
+use Rattle.tree_model.specs.Keys.{Entry}
+use Rattle.tree_model.specs.Reading.{IsNotFull}
+use Rattle.tree_model.specs.Store.{HasCause as HasTreeCause}
+use Rattle.tree_model.specs.declared.pages.TreeFault.{TreeFault}
+use Rattle.tree_model.proofs.StoreLemmas.{grows_itself}
 use Rattle.path.specs.declared.refusal.Refusal.{Refusal}
 use Rattle.path.specs.declared.refusal.Refusal.TheVariants as refusals
 use Rattle.pager.specs.State.{State as PagerState}

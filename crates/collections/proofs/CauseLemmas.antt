@@ -1,7 +1,7 @@
 -- Causes of refusals between two moments are causes between earlier and later ones.
 use Rattle.std.proofs.Common.{◌≢◌, inl, inr, List, sym, ◌∙◌, arith}
 use Rattle.page.specs.History.{History, KeepsWord}
-use Rattle.btree.specs.Store.{HasNoPage}
+use Rattle.tree_model.specs.Store.{HasNoPage}
 use Rattle.path.specs.declared.refusal.Refusal.{Refusal}
 use Rattle.path.specs.declared.refusal.Refusal.TheVariants as refusals
 use Rattle.entries.specs.State.{Collection}

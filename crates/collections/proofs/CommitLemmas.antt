@@ -5,8 +5,8 @@ use Rattle.std.proofs.lemmas.Bool.{cases_lt}
 use Rattle.page.specs.Crash.{ReadsOnly}
 use Rattle.page.specs.History.{History, KeepsWord}
 use Rattle.page.proofs.Moments.{reads_nothing}
-use Rattle.btree.specs.Store.{IsSame, Store as Pages}
-use Rattle.btree.proofs.StoreLemmas.{counts_same, grows_itself, grows_same}
+use Rattle.tree_model.specs.Store.{IsSame, Store as Pages}
+use Rattle.tree_model.proofs.StoreLemmas.{counts_same, grows_itself, grows_same}
 use Rattle.roots.specs.declared.store.CommitFault.{CommitFault}
 use Rattle.roots.specs.Image.{StandsFor}
 use Rattle.roots.specs.Store as stores

@@ -2,7 +2,7 @@
 use Rattle.std.proofs.Common.{◌≡◌, ◌≢◌, ℕ, max, false, List, length, refl, sym, ◌∙◌, ap, subst, arith, inr}
 use Rattle.std.specs.Prelude.{◌==◌, not, Result, Ok, Err, IfErr, MatchResult}
 use Rattle.page.specs.History.{History, KeepsWord, now, reads}
-use Rattle.btree.proofs.OnceLemmas.{old_trees_stay}
+use Rattle.tree_model.proofs.OnceLemmas.{old_trees_stay}
 use Rattle.roots.specs.Counting.{AreCounts}
 use Rattle.roots.specs.Image.{HasList, HoldsMap, StandsFor, reached_by, model_at, store_of as store_of_image}
 use Rattle.roots.specs.Store.{IsCommitted, durable_root}

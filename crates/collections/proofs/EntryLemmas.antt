@@ -9,19 +9,19 @@ use Rattle.std.specs.declared.cmp.Ordering.{Ordering}
 use Rattle.std.specs.declared.cmp.Ordering.TheVariants as orders
 use Rattle.std.proofs.lemmas.List.{length-map}
 use Rattle.page.specs.History.{History}
-use Rattle.btree.specs.Calls.{IsBatch}
-use Rattle.btree.specs.Keys.{Each, Entry, IsBetween, IsNotUnder, IsUnder, IsWithin, Pair, Rises, entry_of, is_within, keep_if, key_cmp, window}
-use Rattle.btree.specs.Reach.{HasMap}
+use Rattle.tree_model.specs.Calls.{IsBatch}
+use Rattle.tree_model.specs.Keys.{Each, Entry, IsBetween, IsNotUnder, IsUnder, IsWithin, Pair, Rises, entry_of, is_within, keep_if, key_cmp, window}
+use Rattle.tree_model.specs.Reach.{HasMap}
 use Rattle.btree.specs.Scan.{HoldsBatch, entry_in}
-use Rattle.btree.specs.Store.{HasCause as HasTreeCause, Store}
-use Rattle.btree.specs.Tree.{Body, IsFan, IsSound, IsWhole, Subtree, pair_keys, pairs_of, subtree_keys}
-use Rattle.btree.specs.declared.pages.TreeFault.{TreeFault}
+use Rattle.tree_model.specs.Store.{HasCause as HasTreeCause, Store}
+use Rattle.tree_model.specs.Tree.{Body, IsFan, IsSound, IsWhole, Subtree, pair_keys, pairs_of, subtree_keys}
+use Rattle.tree_model.specs.declared.pages.TreeFault.{TreeFault}
 use Rattle.btree.specs.declared.scanning.Batch.{Batch}
-use Rattle.btree.proofs.FanLemmas.{fan_between, pairs_between}
-use Rattle.btree.proofs.KeyLemmas.{not_both, not_under_itself, under_then_up_to}
-use Rattle.btree.proofs.ListLemmas.{each_map, map_append, map_map, rises_append}
-use Rattle.btree.proofs.OnceLemmas.{old_trees_stay}
-use Rattle.btree.proofs.StoreLemmas.{grows_itself}
+use Rattle.tree_model.proofs.FanLemmas.{fan_between, pairs_between}
+use Rattle.tree_model.proofs.KeyLemmas.{not_both, not_under_itself, under_then_up_to}
+use Rattle.tree_model.proofs.ListLemmas.{each_map, map_append, map_map, rises_append}
+use Rattle.tree_model.proofs.OnceLemmas.{old_trees_stay}
+use Rattle.tree_model.proofs.StoreLemmas.{grows_itself}
 use Rattle.entries.specs.StateEntries.{entry_keys}
 use Rattle.path.specs.declared.refusal.Refusal.{Refusal}
 use Rattle.path.specs.declared.refusal.Refusal.TheVariants as refusals

@@ -10,15 +10,15 @@ use Rattle.bson.specs.Tree.{Pairs}
 use Rattle.bson.proofs.RawLaws.{document_spelled-is}
 use Rattle.page.specs.History.{History}
 use Rattle.value_order.specs.KeyText.{tree_text}
-use Rattle.btree.specs.Calls.{IsAnswer, Yields}
+use Rattle.tree_model.specs.Calls.{IsAnswer, Yields}
 use Rattle.btree.specs.Fold.{between}
-use Rattle.btree.specs.Keys.{Entry, window}
-use Rattle.btree.specs.Reach.{HasMap}
-use Rattle.btree.specs.Reading.{IsNotFull}
-use Rattle.btree.specs.Store.{Grows, IsSame, KeepsWord as KeepsStore}
-use Rattle.btree.specs.Tree.{Body, IsTree, entries_of}
+use Rattle.tree_model.specs.Keys.{Entry, window}
+use Rattle.tree_model.specs.Reach.{HasMap}
+use Rattle.tree_model.specs.Reading.{IsNotFull}
+use Rattle.tree_model.specs.Store.{Grows, IsSame, KeepsWord as KeepsStore}
+use Rattle.tree_model.specs.Tree.{Body, IsTree, entries_of}
 use Rattle.btree.specs.declared.folding.Bounds.{Bounds}
-use Rattle.btree.specs.declared.pages.TreeFault.{TreeFault}
+use Rattle.tree_model.specs.declared.pages.TreeFault.{TreeFault}
 use Rattle.entries.specs.LawfulState.{IsKept, IsStorable}
 use Rattle.entries.specs.State.{Collection, key_of}
 use Rattle.entries.specs.StateEntries.{document_entry, key_under}

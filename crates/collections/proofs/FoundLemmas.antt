@@ -10,8 +10,8 @@ use Rattle.bson.specs.Spelling.{frame_of, pairs_bytes}
 use Rattle.bson.specs.Tree.{Pairs}
 use Rattle.value_order.specs.KeyText.{tree_text}
 use Rattle.path.specs.declared.refusal.Refusal.{Refusal}
-use Rattle.btree.specs.Calls.{IsBatch}
-use Rattle.btree.specs.Keys.{Entry, value_at, window}
+use Rattle.tree_model.specs.Calls.{IsBatch}
+use Rattle.tree_model.specs.Keys.{Entry, value_at, window}
 use Rattle.btree.specs.Scan.{entry_in, within}
 use Rattle.btree.specs.declared.scanning.Batch.{Batch}
 use Rattle.btree.specs.declared.scanning.Entry.{Entry as OwnEntry}

@@ -10,13 +10,13 @@ use Rattle.std.specs.declared.cmp.Ordering.TheVariants.{Less, Equal, Greater}
 use Rattle.std.proofs.lemmas.Cmp.{tied_itself}
 use Rattle.bson.specs.Tree.{Pairs}
 use Rattle.value_order.specs.KeyText.{tree_text}
-use Rattle.btree.specs.Keys.{Entry, IsUnder, Rises, is_within, key_cmp, window}
-use Rattle.btree.specs.Calls.{IsBatch}
+use Rattle.tree_model.specs.Keys.{Entry, IsUnder, Rises, is_within, key_cmp, window}
+use Rattle.tree_model.specs.Calls.{IsBatch}
 use Rattle.btree.specs.Fold.{between}
 use Rattle.btree.specs.declared.folding.Bounds.{Bounds}
 use Rattle.std.specs.Cmp.Lexicographic.{nat_list_cmp_total}
 use Rattle.std.specs.Global.{Vec}
-use Rattle.btree.proofs.KeyLemmas.{three, under_then_up_to, under_trans}
+use Rattle.tree_model.proofs.KeyLemmas.{three, under_then_up_to, under_trans}
 use Rattle.index.specs.Definition.{Definition}
 use Rattle.index.specs.View.{texts_of}
 use Rattle.index.specs.KeyTexts.{encoded_keys}

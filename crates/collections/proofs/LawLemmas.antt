@@ -2,10 +2,10 @@
 use Rattle.std.proofs.Common.{rules, arith, ◌≡◌, ℕ, false, List, [], inl, refl, sym, ◌∙◌, subst}
 use Rattle.std.specs.Prelude.{replicate, Ok}
 use Rattle.page.specs.History.{History, KeepsWord, now, reads}
-use Rattle.btree.specs.Keys.{Entry}
-use Rattle.btree.specs.Reach.{HasMap}
-use Rattle.btree.proofs.OnceLemmas.{old_trees_stay}
-use Rattle.btree.proofs.StoreLemmas.{grows_itself, grows_trans}
+use Rattle.tree_model.specs.Keys.{Entry}
+use Rattle.tree_model.specs.Reach.{HasMap}
+use Rattle.tree_model.proofs.OnceLemmas.{old_trees_stay}
+use Rattle.tree_model.proofs.StoreLemmas.{grows_itself, grows_trans}
 use Rattle.roots.specs.Root.{no_root, root_of}
 use Rattle.roots.specs.Image.{StandsFor, model_at}
 use Rattle.roots.specs.Store.{IsCommitted, durable_root}

@@ -8,16 +8,16 @@ use Rattle.std.specs.Global.{Vec}
 use Rattle.std.specs.Option.{option_map}
 use Rattle.std.specs.Ordering.{is_lt}
 use Rattle.std.proofs.lemmas.List.{length-map}
-use Rattle.btree.specs.Calls.{IsBatch}
-use Rattle.btree.specs.Keys.{Entry, is_within, keep_if, key_cmp, window}
-use Rattle.btree.specs.Reading.{IsNotFull}
+use Rattle.tree_model.specs.Calls.{IsBatch}
+use Rattle.tree_model.specs.Keys.{Entry, is_within, keep_if, key_cmp, window}
+use Rattle.tree_model.specs.Reading.{IsNotFull}
 use Rattle.btree.specs.Scan.{HoldsBatch, entry_in}
 use Rattle.btree.specs.declared.scanning.Batch.{Batch}
 use Rattle.btree.specs.declared.scanning.Entry.{Entry as OwnEntry}
-use Rattle.btree.specs.Store.{HasCause as HasTreeCause}
-use Rattle.btree.specs.declared.pages.TreeFault.{TreeFault}
-use Rattle.btree.specs.declared.pages.TreeFault.TheVariants as faults
-use Rattle.btree.proofs.StoreLemmas.{grows_itself}
+use Rattle.tree_model.specs.Store.{HasCause as HasTreeCause}
+use Rattle.tree_model.specs.declared.pages.TreeFault.{TreeFault}
+use Rattle.tree_model.specs.declared.pages.TreeFault.TheVariants as faults
+use Rattle.tree_model.proofs.StoreLemmas.{grows_itself}
 use Rattle.pager.specs.State.{State as PagerState}
 use Rattle.pager.specs.View.{store_of}
 use Rattle.entries.specs.State.{Collection}

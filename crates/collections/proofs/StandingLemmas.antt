@@ -5,11 +5,11 @@ use Rattle.std.proofs.lemmas.Bool.{cases_eq}
 use Rattle.std.proofs.lemmas.Bool.Decides.{nat_tests}
 use Rattle.page.specs.History.{History, KeepsWord}
 use Rattle.btree.specs.Change.{IsChanged}
-use Rattle.btree.specs.Keys.{Entry, times}
-use Rattle.btree.specs.Reach.{HasMap}
-use Rattle.btree.specs.Store.{Frame, Grows, Stays, flag}
-use Rattle.btree.proofs.OnceLemmas.{old_trees_stay}
-use Rattle.btree.proofs.StoreLemmas.{grows_trans}
+use Rattle.tree_model.specs.Keys.{Entry, times}
+use Rattle.tree_model.specs.Reach.{HasMap}
+use Rattle.tree_model.specs.Store.{Frame, Grows, Stays, flag}
+use Rattle.tree_model.proofs.OnceLemmas.{old_trees_stay}
+use Rattle.tree_model.proofs.StoreLemmas.{grows_trans}
 use Rattle.roots.specs.declared.root.Root.{Root}
 use Rattle.roots.specs.Store as stores
 use Rattle.pager.specs.Commit.{IsTurn}

@@ -3,7 +3,7 @@ use Rattle.std.proofs.Common.{◌≡◌, inl, inr, ℕ, ◌||◌, ◌&&◌, List
 use Rattle.std.specs.Prelude.{Contains}
 use Rattle.std.specs.List.{list_any}
 use Rattle.bson.specs.Tree.{Pairs}
-use Rattle.btree.specs.Keys.{Entry}
+use Rattle.tree_model.specs.Keys.{Entry}
 use Rattle.value_order.specs.KeyText.{tree_text}
 use Rattle.index.specs.Changes.{is_among}
 use Rattle.index.specs.Definition.{Definition}

@@ -4,10 +4,10 @@ use Rattle.std.specs.Prelude.{◌==◌, not, Result, Ok, Err, IfOk, OnErr}
 use Rattle.std.proofs.lemmas.List.{drop-map, length-map, reverse-append, reverse-reverse}
 use Rattle.std.proofs.Math.Seq.{drop-append_seam}
 use Rattle.page.specs.History.{History, KeepsWord}
-use Rattle.btree.specs.Keys.{Entry, times}
-use Rattle.btree.specs.Reach.{HasMap}
-use Rattle.btree.specs.Store.{Grows, flag}
-use Rattle.btree.proofs.OnceLemmas.{IsLive, map_live}
+use Rattle.tree_model.specs.Keys.{Entry, times}
+use Rattle.tree_model.specs.Reach.{HasMap}
+use Rattle.tree_model.specs.Store.{Grows, flag}
+use Rattle.tree_model.proofs.OnceLemmas.{IsLive, map_live}
 use Rattle.roots.specs.Store as stores
 use Rattle.roots.specs.Turn.{numbers_of}
 use Rattle.roots.specs.declared.store.CommitFault.{CommitFault}

@@ -12,13 +12,13 @@ use Rattle.std.proofs.lemmas.List.Elements.{All-drop, All-take}
 use Rattle.std.proofs.Math.Seq.{drop-append_seam, take-length}
 use Rattle.bson.specs.Tree.{Pairs}
 use Rattle.page.specs.History.{History, KeepsWord}
-use Rattle.btree.specs.Calls.{IsBatch}
-use Rattle.btree.specs.Keys.{Each, Entry, IsNotUnder, IsUnder, is_within, keep_if, key_cmp, window}
+use Rattle.tree_model.specs.Calls.{IsBatch}
+use Rattle.tree_model.specs.Keys.{Each, Entry, IsNotUnder, IsUnder, is_within, keep_if, key_cmp, window}
 use Rattle.btree.specs.Scan.{entry_in, within}
 use Rattle.btree.specs.declared.scanning.Batch.{Batch}
 use Rattle.btree.specs.declared.scanning.Entry.{Entry as OwnEntry}
 use Rattle.btree.specs.declared.scanning.Range.{Range}
-use Rattle.btree.proofs.KeyLemmas.{not_under_itself}
+use Rattle.tree_model.proofs.KeyLemmas.{not_under_itself}
 use Rattle.entries.specs.Batches.{documents_at}
 use Rattle.entries.specs.LawfulState.{IsKept, IsStorable}
 use Rattle.entries.specs.State.{Collection}

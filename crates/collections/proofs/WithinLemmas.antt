@@ -10,9 +10,9 @@ use Rattle.std.specs.declared.cmp.Ordering.TheVariants.{Less, Equal, Greater}
 use Rattle.std.proofs.lemmas.Cmp.{nat_cmp_total, tied_itself}
 use Rattle.bson.specs.Tree.{Pairs}
 use Rattle.value_order.specs.KeyText.{tree_text}
-use Rattle.btree.specs.Keys.{Entry, IsNotUnder, is_within, keep_if, key_cmp, window}
+use Rattle.tree_model.specs.Keys.{Entry, IsNotUnder, is_within, keep_if, key_cmp, window}
 use Rattle.btree.specs.declared.folding.Bounds.{Bounds}
-use Rattle.btree.proofs.KeyLemmas.{under_trans}
+use Rattle.tree_model.proofs.KeyLemmas.{under_trans}
 use Rattle.entries.specs.Batches.{documents_at}
 use Rattle.entries.specs.State.{key_of}
 use Rattle.entries.specs.StateEntries.{document_entry, key_under}

@@ -2,10 +2,10 @@
 use Rattle.std.specs.Prelude.{ℕ, List, Result}
 use Rattle.page.specs.History.{History}
 use Rattle.btree.specs.Change.{Changes}
-use Rattle.btree.specs.Keys.{Edit, Entry, change}
-use Rattle.btree.specs.Reach.{HasMap}
-use Rattle.btree.specs.declared.pages.TreeFault.{TreeFault}
-use Rattle.btree.specs.declared.pages.TreeFault.TheVariants as faults
+use Rattle.tree_model.specs.Keys.{Edit, Entry, change}
+use Rattle.tree_model.specs.Reach.{HasMap}
+use Rattle.tree_model.specs.declared.pages.TreeFault.{TreeFault}
+use Rattle.tree_model.specs.declared.pages.TreeFault.TheVariants as faults
 use Rattle.pager.specs.State.{State as PagerState}
 use Rattle.pager.specs.View.{store_of}
 use Rattle.path.specs.declared.refusal.Refusal.{Refusal}

@@ -1,8 +1,8 @@
 -- What is read of the tree below a root page: of the turn's, or of that of a version.
 use Rattle.std.specs.Prelude.{◌≡◌, ℕ, ⊤, true, List, Result, IsErrAnd, MatchResult}
 use Rattle.page.specs.History.{History, KeepsWord}
-use Rattle.btree.specs.Keys.{Entry}
-use Rattle.btree.specs.Reach.{HasMap}
+use Rattle.tree_model.specs.Keys.{Entry}
+use Rattle.tree_model.specs.Reach.{HasMap}
 use Rattle.path.specs.declared.refusal.Refusal.{Refusal}
 use Rattle.entries.specs.LawfulState.{IsLawfulState}
 use Rattle.entries.specs.State.{Collection}

@@ -2,8 +2,8 @@
 use Rattle.std.specs.Prelude.{◌≡◌, ◌⊎◌, ℕ, ◌<◌, ◌≤◌, Bool, true, List, [], length, Result, IfErr}
 use Rattle.std.specs.Prelude.{OnErr, MatchResult}
 use Rattle.page.specs.History.{History, KeepsWord}
-use Rattle.btree.specs.Keys.{Entry, Edit}
-use Rattle.btree.specs.Store.{Grows, HasNoPage}
+use Rattle.tree_model.specs.Keys.{Entry, Edit}
+use Rattle.tree_model.specs.Store.{Grows, HasNoPage}
 use Rattle.path.specs.declared.refusal.Refusal.{Refusal}
 use Rattle.path.specs.declared.refusal.Refusal.TheVariants as refusals
 use Rattle.entries.specs.LawfulState.{IsLawfulState}

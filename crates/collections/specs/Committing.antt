@@ -3,7 +3,7 @@ use Rattle.std.specs.Prelude.{◌≡◌, ◌≢◌, ◌⊎◌, ◌+◌, ◌-◌,
 use Rattle.std.specs.Prelude.{Err, OnOk, OnErr}
 use Rattle.page.specs.History.{History, KeepsWord}
 use Rattle.page.specs.Crash.{ExtendsHistory, LeavesOnly, CrashLeaves}
-use Rattle.btree.specs.Store.{HasNoPage}
+use Rattle.tree_model.specs.Store.{HasNoPage}
 use Rattle.roots.specs.declared.store.CommitFault.{CommitFault}
 use Rattle.roots.specs.declared.store.CommitFault.TheVariants as faults
 use Rattle.entries.specs.State.{Collection}

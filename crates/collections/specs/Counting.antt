@@ -1,7 +1,7 @@
 -- How many pages a file has, and how many of them nothing reaches.
 use Rattle.std.specs.Prelude.{◌≡◌, ◌≢◌, ℕ, List, Result, IfErr, IfOk, MatchResult}
 use Rattle.page.specs.History.{History, KeepsWord, now, reads}
-use Rattle.btree.specs.Keys.{Entry}
+use Rattle.tree_model.specs.Keys.{Entry}
 use Rattle.roots.specs.Counting.{AreCounts, CountsTree}
 use Rattle.roots.specs.Image.{reached_by}
 use Rattle.roots.specs.Store.{durable_root}

@@ -4,8 +4,8 @@ use Rattle.std.specs.Prelude.{IfErr, MatchResult}
 use Rattle.std.specs.Option.{option_map}
 use Rattle.std.specs.Global.{Vec}
 use Rattle.page.specs.History.{History, KeepsWord}
-use Rattle.btree.specs.Keys.{Entry, window}
-use Rattle.btree.specs.Reach.{HasMap}
+use Rattle.tree_model.specs.Keys.{Entry, window}
+use Rattle.tree_model.specs.Reach.{HasMap}
 use Rattle.btree.specs.Scan.{entry_in}
 use Rattle.btree.specs.declared.scanning.Batch.{Batch}
 use Rattle.btree.specs.declared.scanning.Entry.{Entry as OwnEntry}

@@ -8,7 +8,7 @@ use Rattle.bson.specs.Raw.{document_spelled}
 use Rattle.bson.specs.Spelling.{frame_of, pairs_bytes}
 use Rattle.bson.specs.Tree.{Pairs}
 use Rattle.value_order.specs.KeyText.{tree_text}
-use Rattle.btree.specs.Keys.{Entry, is_within, key_cmp}
+use Rattle.tree_model.specs.Keys.{Entry, is_within, key_cmp}
 use Rattle.btree.specs.declared.folding.Bounds.{Bounds}
 use Rattle.entries.specs.LawfulState.{IsStorable}
 use Rattle.entries.specs.State.{key_of}

@@ -1,6 +1,6 @@
 -- Which collections an image of a disk holds.
 use Rattle.std.specs.Prelude.{ℕ, List}
-use Rattle.btree.specs.Keys.{Entry}
+use Rattle.tree_model.specs.Keys.{Entry}
 use Rattle.roots.specs.Image.{StandsFor}
 use Rattle.entries.specs.State.{Collection}
 use Rattle.entries.specs.StateEntries.{Spells}

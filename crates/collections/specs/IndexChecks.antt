@@ -2,7 +2,7 @@
 -- entries of a tree.
 use Rattle.std.specs.Prelude.{ℕ, Bool, true, false, not, ◌&&◌, ◌||◌, List, [], ◌∷◌, Option, Some}
 use Rattle.std.specs.Prelude.{None}
-use Rattle.btree.specs.Keys.{Entry, value_at}
+use Rattle.tree_model.specs.Keys.{Entry, value_at}
 use Rattle.index.specs.Definition.{Definition}
 use Rattle.index.specs.KeyTexts.{entry_key}
 use Rattle.entries.specs.OtherKeys.{has_other_key}

@@ -8,7 +8,7 @@ use Rattle.std.specs.Ordering.{is_gt, is_lt}
 use Rattle.std.specs.declared.cmp.Ordering.TheVariants.{Less}
 use Rattle.bson.specs.Tree.{Pairs}
 use Rattle.value_order.specs.KeyText.{tree_text}
-use Rattle.btree.specs.Keys.{Entry, Rises, key_cmp}
+use Rattle.tree_model.specs.Keys.{Entry, Rises, key_cmp}
 use Rattle.index.specs.Definition.{Definition}
 use Rattle.index.specs.KeyTexts.{encoded_keys}
 use Rattle.entries.specs.State.{Collection, key_of}

@@ -1,6 +1,6 @@
 -- Which documents and keys are there, as noted edits leave them.
 use Rattle.std.specs.Prelude.{◌≡◌, ℕ, Bool, false, ◌&&◌, ◌||◌, List, [], ◌∷◌, is_some}
-use Rattle.btree.specs.Keys.{Edit, Entry, change, value_at}
+use Rattle.tree_model.specs.Keys.{Edit, Entry, change, value_at}
 use Rattle.index.specs.Definition.{Definition}
 use Rattle.entries.specs.OtherKeys.{has_other_key}
 use Rattle.entries.specs.State.{Collection}

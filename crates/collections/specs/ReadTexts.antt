@@ -1,8 +1,8 @@
 -- Texts of entries of an index as they are read, entry after entry.
 use Rattle.std.specs.Prelude.{◌≡◌, List, length}
 use Rattle.std.specs.Option.{option_map}
-use Rattle.btree.specs.Calls.{IsBatch}
-use Rattle.btree.specs.Keys.{Entry}
+use Rattle.tree_model.specs.Calls.{IsBatch}
+use Rattle.tree_model.specs.Keys.{Entry}
 use Rattle.index.specs.View.{texts_of}
 use Rattle.collections.specs.IndexTexts.{texts_behind}
 use Rattle.collections.specs.declared.index_texts.TextReading.{TextReading}

@@ -9,13 +9,13 @@ use Rattle.bson.specs.Tree.{Pairs, Tree}
 use Rattle.value_order.specs.KeyText.{tree_text}
 use Rattle.value_order.specs.Laws.{IsKey}
 use Rattle.value_order.specs.Order.{value}
-use Rattle.btree.specs.Calls.{Yields}
-use Rattle.btree.specs.Keys.{Entry, value_at}
-use Rattle.btree.specs.Reach.{HasMap}
-use Rattle.btree.specs.Reading.{IsNotFull}
+use Rattle.tree_model.specs.Calls.{Yields}
+use Rattle.tree_model.specs.Keys.{Entry, value_at}
+use Rattle.tree_model.specs.Reach.{HasMap}
+use Rattle.tree_model.specs.Reading.{IsNotFull}
 use Rattle.btree.specs.Scan.{HoldsBatch, entry_in, within}
-use Rattle.btree.specs.Store.{Grows, IsSame}
-use Rattle.btree.specs.declared.pages.TreeFault.{TreeFault}
+use Rattle.tree_model.specs.Store.{Grows, IsSame}
+use Rattle.tree_model.specs.declared.pages.TreeFault.{TreeFault}
 use Rattle.btree.specs.declared.scanning.Batch.{Batch}
 use Rattle.btree.specs.declared.scanning.Entry.{Entry as OwnEntry}
 use Rattle.btree.specs.declared.scanning.Range.{Range}

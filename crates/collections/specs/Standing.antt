@@ -1,7 +1,7 @@
 -- What the tree of a turn stands for.
 use Rattle.std.specs.Prelude.{◌≡◌, ℕ, false, List}
 use Rattle.page.specs.History.{History, KeepsWord}
-use Rattle.btree.specs.Keys.{Entry}
+use Rattle.tree_model.specs.Keys.{Entry}
 use Rattle.pager.specs.Commit.{IsTurn}
 use Rattle.pager.specs.State.{State as PagerState}
 use Rattle.pager.specs.Turn.{IsBegun}

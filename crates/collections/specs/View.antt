@@ -1,7 +1,7 @@
 -- What the collections of a file are kept in, as their callers see it.
 use Rattle.std.specs.Prelude.{ℕ, ◌==◌, Bool, not}
 use Rattle.page.specs.History.{History}
-use Rattle.btree.specs.Store.{Store}
+use Rattle.tree_model.specs.Store.{Store}
 use Rattle.roots.specs.Store as stores
 use Rattle.pager.specs.View as pagers
 use Rattle.collections.specs.State.{State}

@@ -3,7 +3,7 @@ use Rattle.std.specs.Prelude.{◌≡◌, ℕ, ◌≤◌, ⊤, false, List, [], �
 use Rattle.std.specs.Prelude.{Some, None}
 use Rattle.std.specs.Option.{option_map}
 use Rattle.bson.specs.Tree.{Pairs}
-use Rattle.btree.specs.Keys.{Each, IsNotUnder, IsUnder}
+use Rattle.tree_model.specs.Keys.{Each, IsNotUnder, IsUnder}
 use Rattle.btree.specs.declared.scanning.Entry.{Entry as OwnEntry}
 use Rattle.entries.specs.State.{Collection}
 use Rattle.entries.specs.StateEntries.{document_entry, key_under}

@@ -1,17 +1,18 @@
 //! Edits of the collections' tree.
 ghost use Rattle.std.specs.Prelude.{◌≡◌};
-ghost use Rattle.btree.specs.Store.{Grows};
+ghost use Rattle.tree_model.specs.Store.{Grows};
 ghost use Rattle.collections.specs.Applying.{ChangesTree, refusal_of};
 ghost use Rattle.collections.specs.Calls.{Applies};
 ghost use Rattle.pager.specs.View.{store_of};
 
 use crate::collections::Collections;
-use btree::{TreeFault, change};
+use btree::change;
 use entries::Edits;
 use page::Disk;
 use pager::Pager;
 use path::Refusal;
 use std::alloc::Global;
+use tree_model::TreeFault;
 
 /// What a command says where a page wasn't read or written.
 pub(crate) fn refusal_of(fault: TreeFault) -> Refusal

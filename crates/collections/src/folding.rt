@@ -14,12 +14,13 @@ ghost use Rattle.collections.specs.Reading.{IsInTree, IsNumbered, LooksUp, Reads
 use crate::applying::refusal_of;
 use crate::collections::Collections;
 use bson::{NoMemory, RawDoc};
-use btree::{Bounds, Fold, TreeFault, fold_entries};
+use btree::{Bounds, Fold, fold_entries};
 use entries::{document_key, first_key};
 use page::Disk;
 use pager::Pager;
 use path::Refusal;
 use std::alloc::{AllocError, Global};
+use tree_model::TreeFault;
 
 /// What is made of documents that are lent one after the other, in ascending order of `_id`.
 pub trait DocumentFold {

@@ -3,7 +3,7 @@
 ghost use Rattle.std.specs.Prelude.{◌≡◌, ◌++◌, ◌∷◌, [], ℕ, List, IfOk, IfSome, OnOk, option_map};
 ghost use Rattle.std.specs.Option.{option_to_list};
 ghost use Rattle.btree.specs.Fold.{between, entry_at};
-ghost use Rattle.btree.specs.Keys.{Entry};
+ghost use Rattle.tree_model.specs.Keys.{Entry};
 ghost use Rattle.entries.specs.OtherKeys.{IsEndOf};
 ghost use Rattle.entries.specs.StateEntries.{key_under};
 ghost use Rattle.index.specs.View.{texts_of};
@@ -16,12 +16,13 @@ ghost use Rattle.collections.specs.declared.index_texts.TextReading.{TextReading
 use crate::applying::refusal_of;
 use crate::collections::Collections;
 use bson::NoMemory;
-use btree::{Bounds, Fold, TreeFault, fold_entries};
+use btree::{Bounds, Fold, fold_entries};
 use entries::{end_of, first_key, index_key};
 use page::Disk;
 use pager::Pager;
 use path::Refusal;
 use std::alloc::{AllocError, Global};
+use tree_model::TreeFault;
 
 /// What a key goes on with from a front.
 fn text_behind<'a>(front: &[u8], key: &'a [u8]) -> Option<&'a [u8]>

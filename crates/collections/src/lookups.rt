@@ -17,7 +17,7 @@ use crate::applying::refusal_of;
 use crate::collections::Collections;
 use crate::remembered::Remembered;
 use bson::{Document, SpelledDocument};
-use btree::{Batch, Entry, Range, TreeFault, get, scan};
+use btree::{Batch, Entry, Range, get, scan};
 use entries::{
     Catalogued, catalogue_key, catalogue_parts, document_in, document_key, first_key, namespace_in,
 };
@@ -25,6 +25,7 @@ use page::Disk;
 use pager::Pager;
 use path::Refusal;
 use std::alloc::Global;
+use tree_model::TreeFault;
 
 /// The most collections of a database.
 pub const MOST_COLLECTIONS: usize = 1_000;

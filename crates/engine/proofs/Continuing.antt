@@ -3,7 +3,7 @@ use Rattle.std.proofs.Common.{◌≡◌, ℕ, List, ◌∷◌, refl, sym, ap, su
 use Rattle.page.specs.Crash.{ReadsOnly}
 use Rattle.page.specs.History.{History}
 use Rattle.page.proofs.Moments.{reads_further, reads_nothing}
-use Rattle.btree.proofs.StoreLemmas.{counts_same, counts_trans}
+use Rattle.tree_model.proofs.StoreLemmas.{counts_same, counts_trans}
 use Rattle.collections.specs.Calls.{ExtendsTurn}
 use Rattle.collections.specs.Versions.{StaysInTurn}
 use Rattle.collections.specs.View.{pages_of}

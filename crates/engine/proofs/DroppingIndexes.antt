@@ -6,7 +6,7 @@ use Rattle.std.specs.List.{position, remove}
 use Rattle.std.proofs.lemmas.List.Edits.{length-remove}
 use Rattle.bson.specs.Tree.{Pairs}
 use Rattle.page.specs.History.{History, KeepsWord}
-use Rattle.btree.specs.Keys.{Edit}
+use Rattle.tree_model.specs.Keys.{Edit}
 use Rattle.path.specs.declared.refusal.Refusal.{Refusal}
 use Rattle.path.specs.declared.refusal.Refusal.TheVariants as refusals
 use Rattle.collections.specs.Reading.{IsWithinLimits}

@@ -4,7 +4,7 @@ use Rattle.std.specs.Prelude.{not, All, Bool, if◌then◌else◌}
 use Rattle.page.specs.History.{History, KeepsWord}
 use Rattle.page.specs.Crash.{ExtendsHistory, LeavesOnly, CrashLeaves}
 use Rattle.page.proofs.Moments.{goes_nowhere, started}
-use Rattle.btree.specs.Store.{HasNoPage, Store}
+use Rattle.tree_model.specs.Store.{HasNoPage, Store}
 use Rattle.roots.specs.declared.store.CommitFault.{CommitFault}
 use Rattle.roots.specs.declared.store.CommitFault.TheVariants as faults
 use Rattle.collections.specs.Committing as files

@@ -6,7 +6,7 @@ use Rattle.std.specs.List.{list_any}
 use Rattle.bson.specs.Spelling.{frame_of, pairs_bytes}
 use Rattle.bson.specs.Tree.{Pairs, Tree}
 use Rattle.value_order.specs.KeyText.{tree_text}
-use Rattle.btree.specs.Keys.{Edit, Entry, change, value_at}
+use Rattle.tree_model.specs.Keys.{Edit, Entry, change, value_at}
 use Rattle.outcome.specs.Outcome.{◌>>=◌, unless}
 use Rattle.path.specs.declared.refusal.Refusal.{Refusal}
 use Rattle.path.specs.declared.refusal.Refusal.TheVariants as refusals

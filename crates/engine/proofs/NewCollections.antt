@@ -5,7 +5,7 @@ use Rattle.std.specs.Option.{option_map}
 use Rattle.page.specs.History.{History, KeepsWord}
 use Rattle.path.specs.declared.refusal.Refusal.{Refusal}
 use Rattle.path.specs.declared.refusal.Refusal.TheVariants as refusals
-use Rattle.btree.specs.Keys.{Edit}
+use Rattle.tree_model.specs.Keys.{Edit}
 use Rattle.collections.specs.Calls.{HasReadCause}
 use Rattle.entries.specs.Documents.{AddsCollection}
 use Rattle.entries.specs.LawfulState.{IsLawfulState}

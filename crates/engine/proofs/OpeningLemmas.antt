@@ -5,7 +5,7 @@ use Rattle.trusted_disk.specs.Trusting.{trusted_history}
 use Rattle.trusted_disk.specs.declared.disk.TrustedDisk.{TrustedDisk}
 use Rattle.entries.specs.State.{Collection}
 use Rattle.collections.specs.Standing.{HasState}
-use Rattle.btree.specs.Keys.{times}
+use Rattle.tree_model.specs.Keys.{times}
 use Rattle.cursors.specs.Held.{Held, cursors_of}
 use Rattle.pinned_cursors.specs.Tied.{AreTied}
 use Rattle.database_model.specs.Lawful.{AreLawfulCursors, IsLawfulState}

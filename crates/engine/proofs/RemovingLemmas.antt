@@ -6,7 +6,7 @@ use Rattle.std.specs.List.{filter}
 use Rattle.bson.specs.Tree.{Pairs, pair, no_pairs}
 use Rattle.filter.specs.Matches.{matches}
 use Rattle.page.specs.History.{History, KeepsWord}
-use Rattle.btree.specs.Keys.{Edit}
+use Rattle.tree_model.specs.Keys.{Edit}
 use Rattle.path.specs.declared.refusal.Refusal.{Refusal}
 use Rattle.path.specs.declared.refusal.Refusal.TheVariants as refusals
 use Rattle.command_model.specs.Delete.{Deletion}

@@ -8,7 +8,7 @@ use Rattle.value_order.specs.KeyText.{tree_text}
 use Rattle.outcome.specs.Outcome.{◌>>=◌, unless}
 use Rattle.path.specs.declared.refusal.Refusal.{Refusal}
 use Rattle.path.specs.declared.refusal.Refusal.TheVariants as refusals
-use Rattle.btree.specs.Keys.{Edit}
+use Rattle.tree_model.specs.Keys.{Edit}
 use Rattle.collections.specs.Reading.{catalogued_in, catalogued_of}
 use Rattle.update_model.specs.Stored.{id_first}
 use Rattle.index.specs.Definition.{Definition}

@@ -10,7 +10,7 @@ use Rattle.std.proofs.lemmas.List.Elements.{All-cons, All-drop, All-head}
 use Rattle.bson.specs.Tree.{Pairs, Tree}
 use Rattle.value_order.specs.Order.{compare}
 use Rattle.value_order.specs.TotalLaws.{compare_total}
-use Rattle.btree.specs.Keys.{Edit}
+use Rattle.tree_model.specs.Keys.{Edit}
 use Rattle.path.specs.declared.refusal.Refusal.{Refusal}
 use Rattle.path.specs.declared.refusal.Refusal.TheVariants as refusals
 use Rattle.index.specs.Definition.{Definition}

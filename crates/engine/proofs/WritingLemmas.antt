@@ -1,7 +1,7 @@
 -- Edits are put into the file of an engine.
 use Rattle.std.proofs.Common.{◌≡◌, inl, inr, true, List, Ok, Err, refl, sym, ap, subst, ◌∙◌}
 use Rattle.page.specs.History.{History, KeepsWord}
-use Rattle.btree.specs.Keys.{Edit}
+use Rattle.tree_model.specs.Keys.{Edit}
 use Rattle.path.specs.declared.refusal.Refusal.{Refusal}
 use Rattle.path.specs.declared.refusal.Refusal.TheVariants as refusals
 use Rattle.entries.specs.LawfulState as states

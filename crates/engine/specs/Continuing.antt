@@ -2,7 +2,7 @@
 use Rattle.std.specs.Prelude.{◌≡◌, ◌≤◌}
 use Rattle.page.specs.Crash.{ReadsOnly}
 use Rattle.page.specs.History.{History, KeepsWord}
-use Rattle.btree.specs.Store.{CountsReads}
+use Rattle.tree_model.specs.Store.{CountsReads}
 use Rattle.collections.specs.View.{pages_of}
 use Rattle.engine.specs.Durable.{disk_history, file_of, failed_allocations_of, generation}
 use Rattle.engine.specs.Durable.{is_stopped}

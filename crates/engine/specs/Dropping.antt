@@ -2,7 +2,7 @@
 -- none.
 use Rattle.std.specs.Prelude.{◌≡◌, Bool, false, List, [], All}
 use Rattle.bson.specs.Tree.{Pairs}
-use Rattle.btree.specs.Keys.{Edit}
+use Rattle.tree_model.specs.Keys.{Edit}
 use Rattle.collections.specs.Walk.{IsWalk}
 use Rattle.collections.specs.declared.walk.Walk.{Walk}
 use Rattle.entries.specs.Documents.{with_documents}

@@ -5,7 +5,7 @@ use Rattle.std.specs.Prelude.{MatchResult}
 use Rattle.std.specs.List.{filter}
 use Rattle.bson.specs.Tree.{Pairs, no_items}
 use Rattle.page.specs.History.{History, KeepsWord}
-use Rattle.btree.specs.Keys.{Edit}
+use Rattle.tree_model.specs.Keys.{Edit}
 use Rattle.path.specs.declared.refusal.Refusal.{Refusal}
 use Rattle.path.specs.declared.refusal.Refusal.TheVariants as refusals
 use Rattle.collections.specs.Calls.{HasReadCause}

@@ -15,7 +15,7 @@ use Rattle.value_order.specs.Order.{value}
 use Rattle.value_order.specs.KeyText.{tree_text}
 use Rattle.value_order.specs.declared.texts.Direction.TheVariants as directions
 use Rattle.value_order.proofs.KeyLaws.{texts_order}
-use Rattle.btree.specs.Keys.{Entry, IsNotUnder, IsUnder, keep_if, key_cmp, is_within, window}
+use Rattle.tree_model.specs.Keys.{Entry, IsNotUnder, IsUnder, keep_if, key_cmp, is_within, window}
 use Rattle.entries.specs.Batches.{documents_at, ListsDocumentsFrom, AllDocuments, GoesOnBehind}
 use Rattle.entries.specs.LawfulState.{IsStorable, IsRising}
 use Rattle.entries.specs.State.{key_of}

@@ -4,7 +4,7 @@ use Rattle.std.specs.List.{flat_map}
 use Rattle.std.proofs.lemmas.List.{map-append}
 use Rattle.std.proofs.lemmas.List.Concat.{flat_map-append}
 use Rattle.bson.specs.Tree.{Pairs}
-use Rattle.btree.specs.Keys.{Entry, Edit}
+use Rattle.tree_model.specs.Keys.{Entry, Edit}
 use Rattle.index.specs.Definition.{Definition}
 use Rattle.entries.specs.Indexed.{GoesOnBy}
 use Rattle.entries.specs.IndexBuilding.{GoOnFurther, GoWhereTheyLead, PutsOneMore, RemovesOneMore, MakesIndexOfAll, DropsIndexOfAll}

@@ -11,7 +11,7 @@ use Rattle.bson.specs.View.{tree, items_of}
 use Rattle.bson.specs.declared.value.Value.{Value}
 use Rattle.index.specs.Definition.{Definition, IsDefinition}
 use Rattle.index.specs.Catalogue.{spelled}
-use Rattle.btree.specs.Keys.{Edit}
+use Rattle.tree_model.specs.Keys.{Edit}
 use Rattle.entries.specs.EditList.{with_edit, LeadsWith}
 use Rattle.entries.specs.Indexed.{catalogue_put, NotesIndexesOf}
 use Rattle.entries.specs.State.{Collection, put_collection}

@@ -1,6 +1,6 @@
 -- A collection more, and one less.
 use Rattle.std.proofs.Common.{◌≡◌, List, [], ◌∷◌, inl, inr, refl, sym, ap, subst}
-use Rattle.btree.specs.Keys.{Entry}
+use Rattle.tree_model.specs.Keys.{Entry}
 use Rattle.entries.specs.State.{Collection, empty_collection, put_collection, without_collection}
 use Rattle.entries.specs.StateEntries.{catalogue_entry, collection_entries, state_entries}
 use Rattle.entries.specs.StateLaws.{MakesCollection, DropsCollection}

@@ -6,8 +6,8 @@ use Rattle.std.specs.declared.cmp.Ordering.TheVariants.{Less, Equal, Greater}
 use Rattle.std.specs.Ordering.{is_eq, ordering_reverse}
 use Rattle.std.specs.Cmp.Lexicographic.{nat_list_cmp_total}
 use Rattle.std.proofs.lemmas.Map.Lookups.{exact_bytes}
-use Rattle.btree.specs.Change.{edit_keys}
-use Rattle.btree.specs.Keys.{Each, Edit, Entry, IsUnder, Rises, change, edit_map, key_cmp, value_at}
+use Rattle.tree_model.specs.Keys.{edit_keys}
+use Rattle.tree_model.specs.Keys.{Each, Edit, Entry, IsUnder, Rises, change, edit_map, key_cmp, value_at}
 use Rattle.entries.specs.EditList.{Noted, edits_in, with_edit, IsEditList, IsShortEdit, LeadsWith}
 use Rattle.entries.specs.State.{by_order}
 use Rattle.entries.specs.StateEntries.{Spells, entry_keys}

@@ -5,8 +5,8 @@ use Rattle.std.specs.Ordering.{is_eq, ordering_reverse}
 use Rattle.std.specs.declared.cmp.Ordering.{Ordering}
 use Rattle.std.specs.declared.cmp.Ordering.TheVariants.{Less, Equal, Greater}
 use Rattle.std.proofs.lemmas.Map.Lookups.{exact_bytes}
-use Rattle.btree.specs.Change.{edit_keys}
-use Rattle.btree.specs.Keys.{Each, Edit, IsUnder, Rises, key_cmp, value_at}
+use Rattle.tree_model.specs.Keys.{edit_keys}
+use Rattle.tree_model.specs.Keys.{Each, Edit, IsUnder, Rises, key_cmp, value_at}
 use Rattle.entries.specs.EditList.{PutWhatTheyHave, edit_at}
 use Rattle.entries.proofs.EditLemmas.{change_value, turned, value_after}
 

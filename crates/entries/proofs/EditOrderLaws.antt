@@ -6,7 +6,7 @@ use Rattle.std.specs.declared.cmp.Ordering.TheVariants.{Less, Equal, Greater}
 use Rattle.std.specs.Ordering.{is_eq, ordering_reverse}
 use Rattle.std.specs.Cmp.Lexicographic.{nat_list_cmp_total}
 use Rattle.std.proofs.lemmas.Map.Lookups.{exact_bytes}
-use Rattle.btree.specs.Keys.{Entry, Edit, Each, IsUnder, Rises, key_cmp, edit_map, change, value_at}
+use Rattle.tree_model.specs.Keys.{Entry, Edit, Each, IsUnder, Rises, key_cmp, edit_map, change, value_at}
 use Rattle.entries.specs.StateEntries.{Spells, entry_keys}
 use Rattle.entries.specs.EditOrder.{earlier_at, with_earlier, in_key_order, edit_keys}
 use Rattle.entries.specs.StateLaws.{LeadsOn, OrderIsFree, EditsSwap}

@@ -10,8 +10,8 @@ use Rattle.std.specs.Ordering.{is_eq, is_lt, match_ordering, ordering_reverse}
 use Rattle.std.specs.declared.cmp.Ordering.{Ordering}
 use Rattle.std.specs.declared.cmp.Ordering.TheVariants.{Less, Equal, Greater}
 use Rattle.std.proofs.lemmas.Map.Lookups.{exact_bytes}
-use Rattle.btree.specs.Change.{edit_keys}
-use Rattle.btree.specs.Keys.{Edit, key_cmp}
+use Rattle.tree_model.specs.Keys.{edit_keys}
+use Rattle.tree_model.specs.Keys.{Edit, key_cmp}
 use Rattle.index.specs.Changes.{is_among}
 use Rattle.entries.specs.EditList.{Noted, edit_at, edit_of, edits_in, with_edit}
 use Rattle.entries.specs.State.{by_order}

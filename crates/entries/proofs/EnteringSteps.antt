@@ -8,7 +8,7 @@ use Rattle.std.specs.declared.cmp.Ordering.{Ordering}
 use Rattle.std.specs.declared.cmp.Ordering.TheVariants as orders
 use Rattle.bson.specs.Tree.{Pairs}
 use Rattle.value_order.specs.Order.{compare}
-use Rattle.btree.specs.Keys.{Edit}
+use Rattle.tree_model.specs.Keys.{Edit}
 use Rattle.index.specs.Definition.{Definition}
 use Rattle.entries.specs.Documents.{put_document}
 use Rattle.entries.specs.Entering.{DocumentWrite, Enters, NotesArrays, becomes_multikey, entered, with_document}

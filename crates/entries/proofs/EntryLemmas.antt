@@ -12,7 +12,7 @@ use Rattle.value_order.specs.Order.{value, compare}
 use Rattle.value_order.specs.KeyText.{escaped_text, tree_text}
 use Rattle.value_order.specs.declared.texts.Direction.TheVariants as directions
 use Rattle.value_order.proofs.KeyLaws.{texts_agree}
-use Rattle.btree.specs.Keys.{Entry}
+use Rattle.tree_model.specs.Keys.{Entry}
 use Rattle.index.specs.Definition.{Definition}
 use Rattle.index.specs.KeyTexts.{encoded_keys}
 use Rattle.entries.specs.State.{Collection, words, key_of}

@@ -2,7 +2,7 @@
 use Rattle.std.proofs.Common.{◌≡◌, ℕ, Bool, true, false, List, [], ◌∷◌, ◌++◌, Option, Some, None, ◌⊎◌, inl, inr, refl, sym, ap, subst, ◌∙◌}
 use Rattle.std.specs.Prelude.{if◌then◌else◌}
 use Rattle.std.specs.Ordering.{is_eq}
-use Rattle.btree.specs.Keys.{Entry, Each, IsUnder, Rises, key_cmp, change, value_at}
+use Rattle.tree_model.specs.Keys.{Entry, Each, IsUnder, Rises, key_cmp, change, value_at}
 use Rattle.entries.specs.State.{Collection}
 use Rattle.entries.specs.StateEntries.{Leads, entry_keys, state_entries, puts, removals}
 use Rattle.entries.proofs.EditLemmas.{same_key, key_itself, not_under_itself, value_after, change_value, rises_change, entry_is}

@@ -9,7 +9,7 @@ use Rattle.bson.specs.Tree.{Pairs}
 use Rattle.bson.specs.Spelling.{frame_of, pairs_bytes}
 use Rattle.value_order.specs.Order.{Key}
 use Rattle.value_order.specs.KeyText.{escaped_text, tree_text}
-use Rattle.btree.specs.Keys.{Entry}
+use Rattle.tree_model.specs.Keys.{Entry}
 use Rattle.index.specs.Definition.{Field}
 use Rattle.index.specs.IndexKeys.{index_keys, has_parallel_arrays}
 use Rattle.index.specs.KeyTexts.{key_bytes, encoded_keys, is_too_long, keys_in}

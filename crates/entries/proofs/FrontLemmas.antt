@@ -13,7 +13,7 @@ use Rattle.std.proofs.lemmas.Bool.Decides.{Decides-eqb}
 use Rattle.std.proofs.lemmas.Cmp.{nat_cmp_total, tied_itself}
 use Rattle.std.proofs.Math.Seq.{drop-append_seam}
 use Rattle.std.proofs.lemmas.Slice.Eq.{bytes_eq-Decides, starts_is}
-use Rattle.btree.specs.Keys.{key_cmp}
+use Rattle.tree_model.specs.Keys.{key_cmp}
 use Rattle.entries.specs.OtherKeys.{is_another}
 
 -- ---- going on from a front

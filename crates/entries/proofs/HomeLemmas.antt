@@ -10,7 +10,7 @@ use Rattle.bson.specs.Tree.{Pairs}
 use Rattle.value_order.specs.Order.{compare}
 use Rattle.value_order.specs.KeyText.{tree_text}
 use Rattle.value_order.specs.TotalLaws.{compare_total}
-use Rattle.btree.specs.Keys.{Entry}
+use Rattle.tree_model.specs.Keys.{Entry}
 use Rattle.index.specs.Definition.{Definition}
 use Rattle.entries.specs.State.{Collection, words, key_of, uses}
 use Rattle.entries.specs.StateEntries.{key_under, catalogue_entry, document_entry, collection_entries, state_entries}

@@ -2,7 +2,7 @@
 use Rattle.std.proofs.Common.{◌≡◌, ◌≢◌, ℕ, List, [], ◌∷◌, ◌++◌, map, ◌⊎◌, inl, inr, refl, sym, ap, subst, ◌∙◌}
 use Rattle.std.specs.List.{flat_map, AllPairs}
 use Rattle.bson.specs.Tree.{Pairs}
-use Rattle.btree.specs.Keys.{Entry}
+use Rattle.tree_model.specs.Keys.{Entry}
 use Rattle.index.specs.Definition.{Definition}
 use Rattle.index.specs.KeyTexts.{encoded_keys}
 use Rattle.entries.specs.State.{Collection, key_of}

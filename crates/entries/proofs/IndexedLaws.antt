@@ -7,8 +7,8 @@ use Rattle.std.specs.List.{flat_map, list_any}
 use Rattle.outcome.specs.Outcome.{unless}
 use Rattle.bson.specs.Tree.{Pairs}
 use Rattle.value_order.specs.KeyText.{tree_text}
-use Rattle.btree.specs.Change.{edit_keys, removal}
-use Rattle.btree.specs.Keys.{Entry, Edit, Rises}
+use Rattle.tree_model.specs.Keys.{edit_keys, removal}
+use Rattle.tree_model.specs.Keys.{Entry, Edit, Rises}
 use Rattle.path.specs.declared.refusal.Refusal.{Refusal}
 use Rattle.path.specs.declared.refusal.Refusal.TheVariants as refusals
 use Rattle.index.specs.Definition.{Field, Definition}

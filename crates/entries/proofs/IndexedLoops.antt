@@ -2,7 +2,7 @@
 use Rattle.std.proofs.Common.{◌≡◌, ℕ, ◌+◌, ◌<◌, ◌≤◌, List, ◌∷◌, ◌++◌, length, get_or, drop, map, sym, ap, subst, ◌∙◌, arith}
 use Rattle.std.specs.Prelude.{All}
 use Rattle.std.proofs.lemmas.List.{at_drop_more, drop_all, map-append}
-use Rattle.btree.specs.Keys.{Entry, Edit}
+use Rattle.tree_model.specs.Keys.{Entry, Edit}
 use Rattle.index.specs.Definition.{Definition}
 use Rattle.entries.specs.Indexed.{with_edits, NotesUpTo, NotesSome, entries_at, entries_in_all}
 use Rattle.entries.proofs.ManyEditsLaws.{goes_further, stops, ends}

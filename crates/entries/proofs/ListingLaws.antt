@@ -11,7 +11,7 @@ use Rattle.value_order.specs.Order.{value, compare}
 use Rattle.value_order.specs.KeyText.{tree_text}
 use Rattle.value_order.specs.declared.texts.Direction.TheVariants as directions
 use Rattle.value_order.proofs.KeyLaws.{texts_order}
-use Rattle.btree.specs.Keys.{Entry, Each, IsUnder, Rises}
+use Rattle.tree_model.specs.Keys.{Entry, Each, IsUnder, Rises}
 use Rattle.index.specs.Definition.{Definition}
 use Rattle.index.specs.KeyTexts.{encoded_keys}
 use Rattle.entries.specs.State.{Collection, words, key_of}

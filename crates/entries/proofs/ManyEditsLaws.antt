@@ -1,7 +1,7 @@
 -- Many edits noted one after the other.
 use Rattle.std.proofs.Common.{◌≡◌, List, [], ◌∷◌, ◌++◌, refl, sym, ap, subst, ◌∙◌, append_assoc, append-nil}
-use Rattle.btree.specs.Change.{edit_keys}
-use Rattle.btree.specs.Keys.{Entry, Edit, Rises, change}
+use Rattle.tree_model.specs.Keys.{edit_keys}
+use Rattle.tree_model.specs.Keys.{Entry, Edit, Rises, change}
 use Rattle.entries.specs.EditList.{with_edit}
 use Rattle.entries.specs.Indexed.{with_edits, NotesUpTo, NotesSome, GoesOnBy}
 use Rattle.entries.specs.State.{Collection}

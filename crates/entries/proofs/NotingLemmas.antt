@@ -6,9 +6,9 @@ use Rattle.std.specs.Global.{Vec}
 use Rattle.std.proofs.lemmas.List.{append-nil}
 use Rattle.bson.specs.Spelling.{frame_of, pairs_bytes}
 use Rattle.value_order.specs.KeyText.{tree_text}
-use Rattle.btree.specs.EditView.{HasRoom, edit_in}
-use Rattle.btree.specs.Keys.{Each, Edit}
-use Rattle.btree.specs.declared.editing.Edit.{Edit as TreeEdit}
+use Rattle.tree_model.specs.EditView.{HasRoom, edit_in}
+use Rattle.tree_model.specs.Keys.{Each, Edit}
+use Rattle.tree_model.specs.declared.edit.Edit.{Edit as TreeEdit}
 use Rattle.entries.specs.EditList.{IsShortEdit, LeadsWith, Noted, edit_of, edits_in}
 use Rattle.entries.specs.State.{words}
 use Rattle.entries.specs.StateEntries.{key_under, catalogue_value}

@@ -12,7 +12,7 @@ use Rattle.value_order.specs.Order.{compare}
 use Rattle.value_order.specs.TotalLaws.{compare_total}
 use Rattle.value_order.specs.KeyText.{tree_text}
 use Rattle.std.proofs.lemmas.Cmp.{tied_itself}
-use Rattle.btree.specs.Keys.{Entry}
+use Rattle.tree_model.specs.Keys.{Entry}
 use Rattle.index.specs.Definition.{Definition, IsDefinition}
 use Rattle.entries.specs.State.{Collection, words, key_of}
 use Rattle.entries.specs.StateEntries.{catalogue_entry, document_entry, collection_entries, state_entries, Spells}

@@ -5,8 +5,8 @@ use Rattle.std.specs.List.{list_any, starts_with}
 use Rattle.std.specs.Ordering.{is_eq, is_lt, ordering_reverse}
 use Rattle.std.specs.declared.cmp.Ordering.{Ordering}
 use Rattle.std.specs.declared.cmp.Ordering.TheVariants.{Less, Equal, Greater}
-use Rattle.btree.specs.Change.{edit_keys}
-use Rattle.btree.specs.Keys.{Each, Edit, Entry, IsUnder, Rises, change, is_within, key_cmp, keep_if, value_at, window}
+use Rattle.tree_model.specs.Keys.{edit_keys}
+use Rattle.tree_model.specs.Keys.{Each, Edit, Entry, IsUnder, Rises, change, is_within, key_cmp, keep_if, value_at, window}
 use Rattle.index.specs.Changes.{is_among}
 use Rattle.entries.specs.OtherKeys.{is_another, puts_another, IsEndOf}
 use Rattle.entries.specs.StateEntries.{entry_keys}

@@ -10,7 +10,7 @@ use Rattle.std.specs.declared.cmp.Ordering.TheVariants.{Less, Equal, Greater}
 use Rattle.bson.specs.Tree.{Pairs}
 use Rattle.value_order.specs.KeyText.{tree_text}
 use Rattle.value_order.specs.Order.{compare}
-use Rattle.btree.specs.Keys.{Entry, before, behind, change, edit_map, key_cmp, keep_if, value_at}
+use Rattle.tree_model.specs.Keys.{Entry, before, behind, change, edit_map, key_cmp, keep_if, value_at}
 use Rattle.index.specs.Changes.{is_among}
 use Rattle.index.specs.Definition.{Definition}
 use Rattle.index.specs.KeyTexts.{key_bytes, encoded_keys}

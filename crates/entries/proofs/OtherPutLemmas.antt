@@ -7,8 +7,8 @@ use Rattle.std.specs.Option.{option_map}
 use Rattle.std.specs.Ordering.{is_le, is_lt, ordering_reverse}
 use Rattle.std.specs.declared.cmp.Ordering.{Ordering}
 use Rattle.std.specs.declared.cmp.Ordering.TheVariants.{Less, Equal, Greater}
-use Rattle.btree.specs.Change.{edit_keys}
-use Rattle.btree.specs.Keys.{Each, Rises, key_cmp}
+use Rattle.tree_model.specs.Keys.{edit_keys}
+use Rattle.tree_model.specs.Keys.{Each, Rises, key_cmp}
 use Rattle.entries.specs.EditList.{Noted, edit_of, edits_in}
 use Rattle.entries.specs.OtherKeys.{is_another, puts_another}
 use Rattle.entries.proofs.EditLemmas.{turned}

@@ -13,7 +13,7 @@ use Rattle.value_order.specs.Order.{value, compare}
 use Rattle.value_order.specs.KeyText.{tree_text}
 use Rattle.value_order.specs.declared.texts.Direction.TheVariants as directions
 use Rattle.value_order.proofs.KeyLaws.{texts_agree}
-use Rattle.btree.specs.Keys.{Entry, Rises, value_at}
+use Rattle.tree_model.specs.Keys.{Entry, Rises, value_at}
 use Rattle.entries.specs.State.{Collection, words, key_of, find_collection}
 use Rattle.entries.specs.StateEntries.{key_under, catalogue_entry, document_entry, collection_entries, state_entries, entry_keys}
 use Rattle.entries.specs.LawfulState.{IsKept}

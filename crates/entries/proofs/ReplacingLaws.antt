@@ -6,8 +6,8 @@ use Rattle.std.specs.List.{filter, flat_map}
 use Rattle.std.proofs.lemmas.List.{length-map}
 use Rattle.bson.specs.Tree.{Pairs}
 use Rattle.value_order.specs.KeyText.{tree_text}
-use Rattle.btree.specs.Change.{edit_keys}
-use Rattle.btree.specs.Keys.{Entry, Edit, Rises}
+use Rattle.tree_model.specs.Keys.{edit_keys}
+use Rattle.tree_model.specs.Keys.{Entry, Edit, Rises}
 use Rattle.index.specs.Changes.{IsAscending, is_among}
 use Rattle.index.specs.Definition.{Definition}
 use Rattle.index.specs.IndexKeys.{index_keys}

@@ -1,6 +1,6 @@
 -- A lawful state is spelled by one map.
 use Rattle.std.proofs.Common.{◌≡◌, ℕ, List, [], Option, Some, None, inl, refl, sym, ◌∙◌}
-use Rattle.btree.specs.Keys.{Entry, Rises, change, value_at}
+use Rattle.tree_model.specs.Keys.{Entry, Rises, change, value_at}
 use Rattle.entries.specs.State.{Collection}
 use Rattle.entries.specs.StateEntries.{Spells, entry_keys, state_entries, puts}
 use Rattle.entries.specs.LawfulState.{IsLawfulState}

@@ -10,8 +10,8 @@ use Rattle.std.specs.declared.cmp.Ordering.{Ordering}
 use Rattle.std.specs.declared.cmp.Ordering.TheVariants as orders
 use Rattle.bson.specs.Tree.{Pairs}
 use Rattle.value_order.specs.KeyText.{tree_text}
-use Rattle.btree.specs.Change.{removal}
-use Rattle.btree.specs.Keys.{Edit}
+use Rattle.tree_model.specs.Keys.{removal}
+use Rattle.tree_model.specs.Keys.{Edit}
 use Rattle.entries.specs.Documents.{AddsCollection, RemovesCollection}
 use Rattle.entries.specs.EditList.{LeadsWith}
 use Rattle.entries.specs.LawfulState.{IsKept, IsLawfulState, AreNamedApart}

@@ -1,6 +1,6 @@
 -- A collection in place of another of its name, by the entries of the two.
 use Rattle.std.proofs.Common.{◌≡◌, ℕ, List, [], ◌++◌, ◌⊎◌, inl, inr, refl, sym, ap, subst, append-nil}
-use Rattle.btree.specs.Keys.{Entry, Edit}
+use Rattle.tree_model.specs.Keys.{Entry, Edit}
 use Rattle.entries.specs.State.{Collection, put_collection, without_collection}
 use Rattle.entries.specs.StateEntries.{collection_entries, state_entries, removals, puts, Leads}
 use Rattle.entries.specs.LawfulState.{IsKept}

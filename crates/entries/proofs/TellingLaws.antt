@@ -4,7 +4,7 @@ use Rattle.std.specs.Prelude.{Contains}
 use Rattle.bson.specs.Tree.{Pairs}
 use Rattle.value_order.specs.Order.{Key}
 use Rattle.value_order.specs.KeyText.{tree_text}
-use Rattle.btree.specs.Keys.{Entry}
+use Rattle.tree_model.specs.Keys.{Entry}
 use Rattle.index.specs.Definition.{Definition}
 use Rattle.index.specs.KeyTexts.{key_bytes, encoded_keys}
 use Rattle.index.specs.Laws.{IsIndexKey}

@@ -11,7 +11,7 @@ use Rattle.std.proofs.lemmas.Cmp.{nat_cmp_total, tied_itself}
 use Rattle.std.proofs.Math.Nat.{mod-eq_of_lt}
 use Rattle.std.proofs.lemmas.Bool.{cases_lt}
 use Rattle.key_order.proofs.NumberLaws.{SortsAs-bytes}
-use Rattle.btree.specs.Keys.{Entry, Each, IsUnder, Rises, key_cmp, keep_if, window, is_within}
+use Rattle.tree_model.specs.Keys.{Entry, Each, IsUnder, Rises, key_cmp, keep_if, window, is_within}
 use Rattle.entries.specs.StateEntries.{key_under, entry_keys}
 use Rattle.entries.proofs.MemberLemmas.{Among}
 

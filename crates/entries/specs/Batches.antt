@@ -2,7 +2,7 @@
 use Rattle.std.specs.Prelude.{◌≡◌, ℕ, not, List, [], ◌∷◌, ◌++◌, length, map, take, drop, Some, All}
 use Rattle.std.specs.Ordering.{is_lt}
 use Rattle.bson.specs.Tree.{Pairs}
-use Rattle.btree.specs.Keys.{Entry, IsNotUnder, keep_if, key_cmp, window}
+use Rattle.tree_model.specs.Keys.{Entry, IsNotUnder, keep_if, key_cmp, window}
 use Rattle.entries.specs.State.{Collection, find_collection}
 use Rattle.entries.specs.StateEntries.{key_under, document_entry}
 use Rattle.entries.specs.StateReads.{SpellsLawful}

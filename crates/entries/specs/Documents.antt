@@ -3,7 +3,7 @@ use Rattle.std.specs.Prelude.{◌≡◌, ℕ, ◌<◌, false, if◌then◌else�
 use Rattle.std.specs.Ordering.{is_eq}
 use Rattle.bson.specs.Tree.{Tree, Pairs}
 use Rattle.value_order.specs.Order.{compare}
-use Rattle.btree.specs.Keys.{Edit}
+use Rattle.tree_model.specs.Keys.{Edit}
 use Rattle.entries.specs.State.{Collection, by_order, key_of, empty_collection, find_collection}
 use Rattle.entries.specs.State.{uses, put_collection, without_collection}
 use Rattle.entries.specs.StateEntries.{Leads}

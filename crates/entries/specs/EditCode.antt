@@ -1,7 +1,7 @@
 -- That edits are told apart by lists of numbers.
 use Rattle.std.specs.Prelude.{ℕ, List, Option, refl}
 use Rattle.std.specs.Coded.{Coded, code_by, coded×, coded_ℕ, coded_list, coded_option}
-use Rattle.btree.specs.Keys.{Edit}
+use Rattle.tree_model.specs.Keys.{Edit}
 
 abbrev pub edit_code : Coded Edit
 edit_code =

@@ -4,8 +4,8 @@ use Rattle.std.specs.Prelude.{unwrap_or, if◌then◌else◌}
 use Rattle.std.specs.Ordering.{is_eq}
 use Rattle.std.specs.Option.{option_map, ForSome}
 use Rattle.std.specs.Global.{Vec}
-use Rattle.btree.specs.Change.{edit_keys}
-use Rattle.btree.specs.Keys.{Each, Edit, Entry, Rises, change, key_cmp, value_at}
+use Rattle.tree_model.specs.Keys.{edit_keys}
+use Rattle.tree_model.specs.Keys.{Each, Edit, Entry, Rises, change, key_cmp, value_at}
 use Rattle.entries.specs.State.{Collection, by_order}
 use Rattle.entries.specs.StateEntries.{Leads}
 

@@ -2,7 +2,7 @@
 use Rattle.std.specs.Prelude.{ℕ, List, [], ◌∷◌, map}
 use Rattle.std.specs.declared.cmp.Ordering.{Ordering}
 use Rattle.std.specs.declared.cmp.Ordering.TheVariants.{Less, Equal, Greater}
-use Rattle.btree.specs.Keys.{Edit, key_cmp}
+use Rattle.tree_model.specs.Keys.{Edit, key_cmp}
 
 -- before the first edit that isn't below it, unless that is one at its key
 abbrev pub earlier_at : Ordering → Edit → Edit → List Edit → List Edit → List Edit

@@ -2,7 +2,7 @@
 use Rattle.std.specs.Prelude.{◌≡◌, ℕ, List, [], ◌∷◌, ◌++◌}
 use Rattle.std.specs.List.{flat_map}
 use Rattle.bson.specs.Tree.{Pairs}
-use Rattle.btree.specs.Keys.{Edit}
+use Rattle.tree_model.specs.Keys.{Edit}
 use Rattle.index.specs.Definition.{Definition}
 use Rattle.entries.specs.Indexed.{GoesOnBy, catalogue_put}
 use Rattle.entries.specs.State.{Collection, put_collection}

@@ -5,8 +5,8 @@ use Rattle.std.specs.List.{flat_map, list_any, starts_with}
 use Rattle.std.specs.Ordering.{is_eq}
 use Rattle.std.specs.Str.{bytes_eq}
 use Rattle.bson.specs.Tree.{Tree, Pairs}
-use Rattle.btree.specs.Change.{edit_keys}
-use Rattle.btree.specs.Keys.{Entry, Edit, change, is_within}
+use Rattle.tree_model.specs.Keys.{edit_keys}
+use Rattle.tree_model.specs.Keys.{Entry, Edit, change, is_within}
 use Rattle.value_order.specs.KeyText.{tree_text}
 use Rattle.value_order.specs.Order.{compare}
 use Rattle.index.specs.Changes.{is_among}

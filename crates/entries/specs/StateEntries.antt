@@ -8,7 +8,7 @@ use Rattle.std.specs.Int.{w32, to_be_bytes}
 use Rattle.bson.specs.Tree.{Tree, document, array, Pairs, no_pairs, pair, Items, no_items, item}
 use Rattle.bson.specs.Spelling.{frame_of, pairs_bytes}
 use Rattle.value_order.specs.KeyText.{tree_text}
-use Rattle.btree.specs.Keys.{Entry, Edit, Rises, change}
+use Rattle.tree_model.specs.Keys.{Entry, Edit, Rises, change}
 use Rattle.index.specs.Definition.{Definition}
 use Rattle.index.specs.Catalogue.{spelled}
 use Rattle.index.specs.KeyTexts.{encoded_keys, entry_key}

@@ -5,7 +5,7 @@ use Rattle.std.specs.List.{flat_map}
 use Rattle.std.specs.declared.cmp.Ordering.TheVariants.{Equal}
 use Rattle.bson.specs.Tree.{Pairs}
 use Rattle.value_order.specs.Order.{compare}
-use Rattle.btree.specs.Keys.{Entry, Edit, Rises, change}
+use Rattle.tree_model.specs.Keys.{Entry, Edit, Rises, change}
 use Rattle.index.specs.Definition.{Definition}
 use Rattle.index.specs.Changes.{without}
 use Rattle.index.specs.KeyTexts.{encoded_keys}

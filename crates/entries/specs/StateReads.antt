@@ -7,7 +7,7 @@ use Rattle.bson.specs.Spelling.{frame_of, pairs_bytes}
 use Rattle.value_order.specs.Laws.{IsKey}
 use Rattle.value_order.specs.Order.{Key, value, compare}
 use Rattle.value_order.specs.KeyText.{tree_text}
-use Rattle.btree.specs.Keys.{Entry, value_at, window}
+use Rattle.tree_model.specs.Keys.{Entry, value_at, window}
 use Rattle.index.specs.Definition.{Definition}
 use Rattle.index.specs.KeyTexts.{key_bytes, encoded_keys}
 use Rattle.index.specs.Laws.{IsIndexKey}

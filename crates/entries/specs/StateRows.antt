@@ -2,7 +2,7 @@
 -- 7, a: 5}`.
 use Rattle.std.specs.Prelude.{◌≡◌, false, [], ◌∷◌, codes}
 use Rattle.bson.specs.Tree.{Pairs, no_pairs, pair}
-use Rattle.btree.specs.Keys.{Entry}
+use Rattle.tree_model.specs.Keys.{Entry}
 use Rattle.value_order.specs.declared.texts.Direction.TheVariants as directions
 use Rattle.index.specs.Definition.{Definition}
 use Rattle.entries.specs.State.{Collection, int}

@@ -1,18 +1,18 @@
 //! A list of edits of the tree, which a commit makes at once.
 
 ghost use Rattle.std.specs.Prelude.{◌≡◌, ◌==◌, [], None, true, IfOk, OnErr, OnOk, is_some, length, map, option_map};
-ghost use Rattle.btree.specs.Change.{edit_keys};
-ghost use Rattle.btree.specs.EditView.{HasRoom, edit_in};
-ghost use Rattle.btree.specs.Keys.{Each, Rises};
+ghost use Rattle.tree_model.specs.Keys.{edit_keys};
+ghost use Rattle.tree_model.specs.EditView.{HasRoom, edit_in};
+ghost use Rattle.tree_model.specs.Keys.{Each, Rises};
 ghost use Rattle.index.specs.Changes.{is_among};
 ghost use Rattle.entries.specs.EditList.{edit_at, IsEditList, IsShortEdit, LeadsWith, edit_of, edits_in, with_edit};
 
 use bson::NoMemory;
-use btree::Edit;
 use key_order::compare_keys;
 use std::alloc::Global;
 use std::collections::BTreeMap;
 use std::marker::Model;
+use tree_model::Edit;
 
 /// Edits in ascending order of their keys, one at each, short enough for the tree.
 #[derive(Drop)]
@@ -26,7 +26,7 @@ pub struct Edits {
 impl Model for Edits {
     ghost use Rattle.std.specs.Prelude.{List};
     ghost use Rattle.std.specs.Coded.{coded_list};
-    ghost use Rattle.btree.specs.Keys as trees;
+    ghost use Rattle.tree_model.specs.Keys as trees;
     ghost use Rattle.entries.specs.EditCode.{edit_code};
 
     ghost Value = { List trees.Edit };

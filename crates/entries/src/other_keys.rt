@@ -2,8 +2,8 @@
 
 ghost use Rattle.std.specs.Prelude.{◌≡◌, ◌+◌, ◌<◌, ◌&&◌, ◌++◌, [], ◌∷◌, false, IfOk, is_some, option_map};
 ghost use Rattle.std.specs.Ordering.{is_lt};
-ghost use Rattle.btree.specs.Change.{edit_keys};
-ghost use Rattle.btree.specs.Keys.{Each, Rises, key_cmp};
+ghost use Rattle.tree_model.specs.Keys.{edit_keys};
+ghost use Rattle.tree_model.specs.Keys.{Each, Rises, key_cmp};
 ghost use Rattle.entries.specs.EditList.{IsEditList, edits_in};
 ghost use Rattle.entries.specs.OtherKeys.{IsEndOf, is_another, puts_another, puts_any};
 ghost use Rattle.index.specs.View.{texts_of};

@@ -2,7 +2,7 @@
 
 ghost use Rattle.std.specs.Prelude.{◌≡◌, ◌≤◌, OnErr, OnOk, length};
 ghost use Rattle.value_order.specs.KeyText.{tree_text};
-ghost use Rattle.btree.specs.Change.{removal};
+ghost use Rattle.tree_model.specs.Keys.{removal};
 ghost use Rattle.entries.specs.Documents.{AddsCollection, RemovesCollection};
 ghost use Rattle.entries.specs.EditList.{with_edit};
 ghost use Rattle.entries.specs.LawfulState.{IsStorable};

@@ -4,9 +4,9 @@ use Rattle.std.proofs.Common.{length-drop}
 use Rattle.std.specs.Prelude.{◌==◌, if◌then◌else◌}
 use Rattle.std.proofs.lemmas.Bool.Decides.{nat_tests}
 use Rattle.page.specs.Content.{Content}
-use Rattle.btree.specs.Keys.{Each, Pair}
-use Rattle.btree.specs.Store.{Store}
-use Rattle.btree.specs.Tree.{Body, HasChain, HasLinks, IsTree, Shows, Subtree, content_of, item_of, place_of}
+use Rattle.tree_model.specs.Keys.{Each, Pair}
+use Rattle.tree_model.specs.Store.{Store}
+use Rattle.tree_model.specs.Tree.{Body, HasChain, HasLinks, IsTree, Shows, Subtree, content_of, item_of, place_of}
 use Rattle.file_state.specs.TreeTests.{body_in, links_behind, links_from, links_in, pair_in}
 use Rattle.file_state.proofs.EntriesRead.{value_read}
 

@@ -4,7 +4,7 @@ use Rattle.bson.specs.Lookup.{lookup}
 use Rattle.bson.specs.Raw.{document_spelled}
 use Rattle.bson.specs.Tree.{Pairs}
 use Rattle.bson.proofs.RawLaws.{document_spelled-is}
-use Rattle.btree.specs.Keys.{Entry}
+use Rattle.tree_model.specs.Keys.{Entry}
 use Rattle.index.specs.Definition.{Definition}
 use Rattle.entries.specs.LawfulState.{AreNamedApart, IsStorable}
 use Rattle.entries.specs.State.{Collection, find_collection}

@@ -6,11 +6,11 @@ use Rattle.std.specs.List.{flat_map}
 use Rattle.std.proofs.lemmas.Bool.Decides.{nat_tests}
 use Rattle.std.proofs.lemmas.List.{take-append-drop}
 use Rattle.page.specs.Content.{Content}
-use Rattle.btree.specs.Keys.{Each, Entry, Pair, entry_of}
-use Rattle.btree.specs.Reach.{HasMap}
-use Rattle.btree.specs.Store.{Store}
-use Rattle.btree.specs.Tree.{Body, HasChain, HasLinks, Shows, Subtree, pivot_of, content_of, entries_of, item_of, pairs_of, place_of}
-use Rattle.btree.proofs.ListLemmas.{map_append}
+use Rattle.tree_model.specs.Keys.{Each, Entry, Pair, entry_of}
+use Rattle.tree_model.specs.Reach.{HasMap}
+use Rattle.tree_model.specs.Store.{Store}
+use Rattle.tree_model.specs.Tree.{Body, HasChain, HasLinks, Shows, Subtree, pivot_of, content_of, entries_of, item_of, pairs_of, place_of}
+use Rattle.tree_model.proofs.ListLemmas.{map_append}
 use Rattle.roots.specs.Image.{model_at, store_of}
 use Rattle.file_state.specs.Entries.{chain_part, chain_from, value_in, entry_in, entries_below, tree_entries, entries_in}
 use Rattle.file_state.specs.Laws.{ReadsEntries}

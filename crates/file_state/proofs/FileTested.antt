@@ -4,9 +4,9 @@ use Rattle.std.specs.Prelude.{◌⊎◌, ◌==◌, ◌&&◌, Result, Ok, Err}
 use Rattle.std.proofs.lemmas.Bool.Decides.{Decides-below_or, Decides-eqb, Decides-like, Decides-or}
 use Rattle.page.specs.Format.{PageModel}
 use Rattle.page.specs.declared.page_fault.PageFault.{PageFault}
-use Rattle.btree.specs.Keys.{Entry}
-use Rattle.btree.specs.Reach.{AreOnce, HasMap}
-use Rattle.btree.specs.Tree.{Body, IsTree, entries_of, pages_of}
+use Rattle.tree_model.specs.Keys.{Entry}
+use Rattle.tree_model.specs.Reach.{AreOnce, HasMap}
+use Rattle.tree_model.specs.Tree.{Body, IsTree, entries_of, pages_of}
 use Rattle.freelist.specs.FreeList.{Part}
 use Rattle.roots.specs.Image.{HasList, HoldsMap, StandsFor, model_at, store_of}
 use Rattle.roots.specs.Root.{root_of}

@@ -10,10 +10,10 @@ use Rattle.std.proofs.lemmas.Option.{same_Some}
 use Rattle.std.proofs.lemmas.Slice.Eq.{bytes_eq-Decides}
 use Rattle.page.specs.Format.{PageModel}
 use Rattle.page.specs.declared.page_fault.PageFault.{PageFault}
-use Rattle.btree.specs.Keys.{Each, times}
-use Rattle.btree.specs.Reach.{AreOnce}
-use Rattle.btree.proofs.CapacityLemmas.{pages_are_few}
-use Rattle.btree.proofs.ListLemmas.{long_map}
+use Rattle.tree_model.specs.Keys.{Each, times}
+use Rattle.tree_model.specs.Reach.{AreOnce}
+use Rattle.tree_model.proofs.CapacityLemmas.{pages_are_few}
+use Rattle.tree_model.proofs.ListLemmas.{long_map}
 use Rattle.freelist.specs.FreeList.{AreOnceBelow, HoldsList, IsFreeList, ListContent, Part, first_page, named_by, pages_of, room_for, times_in}
 use Rattle.freelist.specs.ListReading.{AreAllBelow}
 use Rattle.freelist.proofs.Marking.{times_in-append}

@@ -10,10 +10,10 @@ use Rattle.std.proofs.lemmas.Bool.Decides.{Decides-eqb, Decides-like, Decides-lt
 use Rattle.std.proofs.lemmas.Slice.Eq.{bytes_eq-Decides}
 use Rattle.page.specs.Content.{Place, inline, spilled, Item, Pivot, Content, leaf, branch, chain, free_list}
 use Rattle.page.specs.Content.{IsPivot, IsBranch, IsItem, IsLeaf, IsPlace, pivot_keys, pivot_size, pivots_size, first_key, item_keys, item_size, rise, total}
-use Rattle.btree.specs.Keys.{Each, IsBetween, IsUnder, IsWithin, Pair, Rises, is_within, key_cmp}
-use Rattle.btree.specs.Store.{IsAt, Store}
-use Rattle.btree.specs.Tree.{Body, HasChain, HasLinks, IsFan, IsSound, IsTree, IsWhole, Shows, Subtree, pivot_of, content_of, high_of, item_of, next_of}
-use Rattle.btree.specs.Tree.{pair_keys, subtree_keys, with_low}
+use Rattle.tree_model.specs.Keys.{Each, IsBetween, IsUnder, IsWithin, Pair, Rises, is_within, key_cmp}
+use Rattle.tree_model.specs.Store.{IsAt, Store}
+use Rattle.tree_model.specs.Tree.{Body, HasChain, HasLinks, IsFan, IsSound, IsTree, IsWhole, Shows, Subtree, pivot_of, content_of, high_of, item_of, next_of}
+use Rattle.tree_model.specs.Tree.{pair_keys, subtree_keys, with_low}
 use Rattle.file_state.specs.TreeTests.{all_same, has_chain, has_links, is_pivot, is_at, is_between, is_branch, is_fan, is_item, is_leaf, is_place}
 use Rattle.file_state.specs.TreeTests.{is_rise, is_root, is_sound, is_whole, same_pivot, same_content, same_item, same_place, shows}
 use Rattle.file_state.proofs.TestLemmas.{◌also◌, implied_tested, le_tested, less_tested, true_tested}

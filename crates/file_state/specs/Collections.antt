@@ -6,7 +6,7 @@ use Rattle.std.specs.Prelude.{if◌then◌else◌}
 use Rattle.bson.specs.Lookup.{lookup}
 use Rattle.bson.specs.Raw.{document_spelled}
 use Rattle.bson.specs.Tree.{Tree, scalar, int32, array, Pairs}
-use Rattle.btree.specs.Keys.{Entry}
+use Rattle.tree_model.specs.Keys.{Entry}
 use Rattle.entries.specs.CatalogueReading.{definitions_in}
 use Rattle.index.specs.Definition.{Definition}
 use Rattle.entries.specs.Escaping.{unescaped}

@@ -7,8 +7,8 @@ use Rattle.std.specs.List.{list_all}
 use Rattle.std.specs.Str.{bytes_eq}
 use Rattle.page.specs.Format.{PageModel}
 use Rattle.page.specs.declared.page_fault.PageFault.{PageFault}
-use Rattle.btree.specs.Keys.{times}
-use Rattle.btree.specs.Tree.{Body, pages_of}
+use Rattle.tree_model.specs.Keys.{times}
+use Rattle.tree_model.specs.Tree.{Body, pages_of}
 use Rattle.freelist.specs.FreeList.{ListContent, Part, first_page, named_by, room_for, times_in}
 use Rattle.freelist.specs.FreeList.{pages_of as list_pages}
 use Rattle.roots.specs.Image.{list_in, model_at, store_of}

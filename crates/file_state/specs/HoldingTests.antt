@@ -2,7 +2,7 @@
 use Rattle.std.specs.Prelude.{ℕ, Bool, ◌&&◌, List}
 use Rattle.std.specs.List.{list_all, list_any}
 use Rattle.std.specs.Str.{bytes_eq}
-use Rattle.btree.specs.Keys.{Entry}
+use Rattle.tree_model.specs.Keys.{Entry}
 use Rattle.entries.specs.State.{Collection}
 use Rattle.entries.specs.StateEntries.{entry_keys, state_entries}
 use Rattle.file_state.specs.Collections.{collections_in}

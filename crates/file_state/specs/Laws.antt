@@ -1,7 +1,7 @@
 -- What is read of an image, and what is tested of collections.
 use Rattle.std.specs.Prelude.{◌≡◌, ℕ, true, List, All, Decides}
 use Rattle.bson.specs.Tree.{Pairs}
-use Rattle.btree.specs.Keys.{Entry}
+use Rattle.tree_model.specs.Keys.{Entry}
 use Rattle.roots.specs.Image.{StandsFor}
 use Rattle.entries.specs.LawfulState.{IsLawfulState, IsStorable}
 use Rattle.entries.specs.State.{Collection}

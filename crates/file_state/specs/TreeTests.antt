@@ -9,11 +9,11 @@ use Rattle.std.specs.Str.{bytes_eq}
 use Rattle.page.specs.Content.{Place, inline, spilled, Item, Pivot, Content, leaf, branch, chain}
 use Rattle.page.specs.Content.{pivot_keys, pivot_size, pivots_size, first_key, free_list, item_keys}
 use Rattle.page.specs.Content.{item_size, rise, total}
-use Rattle.btree.specs.Keys.{Pair, is_within, key_cmp}
-use Rattle.btree.specs.Store.{Store}
-use Rattle.btree.specs.Tree.{Body, Subtree, pivot_of, content_of, high_of, item_of, next_of}
-use Rattle.btree.specs.Tree.{pair_keys}
-use Rattle.btree.specs.Tree.{subtree_keys, with_low}
+use Rattle.tree_model.specs.Keys.{Pair, is_within, key_cmp}
+use Rattle.tree_model.specs.Store.{Store}
+use Rattle.tree_model.specs.Tree.{Body, Subtree, pivot_of, content_of, high_of, item_of, next_of}
+use Rattle.tree_model.specs.Tree.{pair_keys}
+use Rattle.tree_model.specs.Tree.{subtree_keys, with_low}
 use Rattle.file_state.specs.Entries.{value_in}
 use Rattle.file_state.specs.StateTests.{all_pairs, implies}
 

@@ -10,8 +10,8 @@ use Rattle.std.specs.List.{flat_map, list_any}
 use Rattle.std.proofs.lemmas.List.{length-map}
 use Rattle.bson.specs.Tree.{Pairs}
 use Rattle.value_order.specs.KeyText.{tree_text}
-use Rattle.btree.specs.Keys.{Entry, IsUnder, value_at}
-use Rattle.btree.proofs.KeyLemmas.{not_under_itself}
+use Rattle.tree_model.specs.Keys.{Entry, IsUnder, value_at}
+use Rattle.tree_model.proofs.KeyLemmas.{not_under_itself}
 use Rattle.index.specs.Changes.{is_among}
 use Rattle.index.specs.Definition.{Definition}
 use Rattle.entries.specs.Documents.{put_document, with_documents}

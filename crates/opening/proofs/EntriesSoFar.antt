@@ -6,7 +6,7 @@ use Rattle.std.proofs.lemmas.Bool.Decides.{nat_tests}
 use Rattle.std.proofs.lemmas.Nat.{from_be_bytes-to_be_bytes_4}
 use Rattle.bson.specs.Tree.{Pairs}
 use Rattle.value_order.specs.KeyText.{tree_text}
-use Rattle.btree.specs.Keys.{Entry, keep_if}
+use Rattle.tree_model.specs.Keys.{Entry, keep_if}
 use Rattle.index.specs.Definition.{Definition}
 use Rattle.entries.specs.LawfulState.{IsKept as IsIndexKept}
 use Rattle.entries.specs.State.{Collection, key_of, put_collection, words}

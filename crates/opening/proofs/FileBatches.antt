@@ -3,10 +3,10 @@ use Rattle.std.proofs.Common.{◌≡◌, ◌≢◌, ◌⊎◌, arith, ℕ, List,
 use Rattle.std.specs.Prelude.{Ok, Err, Result, Option}
 use Rattle.std.specs.Global.{Vec}
 use Rattle.page.specs.History.{History, KeepsWord}
-use Rattle.btree.specs.Keys.{Entry}
+use Rattle.tree_model.specs.Keys.{Entry}
 use Rattle.btree.specs.Scan.{entry_in}
 use Rattle.btree.specs.declared.scanning.Batch.{Batch}
-use Rattle.btree.proofs.StoreLemmas.{grows_itself, grows_trans}
+use Rattle.tree_model.proofs.StoreLemmas.{grows_itself, grows_trans}
 use Rattle.roots.specs.declared.opening.OpenFault.{OpenFault}
 use Rattle.roots.specs.declared.opening.OpenFault.TheVariants as faults
 use Rattle.path.specs.declared.refusal.Refusal.{Refusal}

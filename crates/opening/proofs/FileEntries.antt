@@ -1,7 +1,7 @@
 -- The entries of a file that are all taken spell what they make.
 use Rattle.std.proofs.Common.{◌≡◌, ◌⊎◌, ℕ, ◌+◌, ◌≤◌, Bool, true, false, List, [], ◌∷◌, ◌++◌, length, Some, inl, inr, refl, sym, ap, subst, ◌∙◌, arith}
 use Rattle.std.proofs.Common.{append-nil, append_assoc}
-use Rattle.btree.specs.Keys.{Each, Entry, IsUnder, Rises}
+use Rattle.tree_model.specs.Keys.{Each, Entry, IsUnder, Rises}
 use Rattle.entries.specs.Documents.{put_document, with_documents}
 use Rattle.entries.specs.State.{Collection}
 use Rattle.entries.specs.StateEntries.{Spells, catalogue_entry, collection_entries, entry_keys, state_entries}

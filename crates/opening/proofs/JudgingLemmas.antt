@@ -6,7 +6,7 @@ use Rattle.std.specs.List.{AllByRecursion, AllPairs, list_any}
 use Rattle.bson.specs.Spelling.{frame_of, pairs_bytes}
 use Rattle.bson.proofs.TreeLaws.{one_spelling}
 use Rattle.bson.specs.Tree.{Pairs}
-use Rattle.btree.specs.Keys.{Entry}
+use Rattle.tree_model.specs.Keys.{Entry}
 use Rattle.path.specs.declared.refusal.Refusal.{Refusal}
 use Rattle.index.specs.Definition.{Definition, IsDefinition}
 use Rattle.entries.specs.Entering.{becomes_multikey}

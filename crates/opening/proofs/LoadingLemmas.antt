@@ -4,7 +4,7 @@ use Rattle.std.proofs.Common.{◌∙◌, arith, eqb-true}
 use Rattle.std.specs.Prelude.{IfErr, OnOk, Result, Bool, ◌==◌, ◌^◌, not, if◌then◌else◌}
 use Rattle.page.specs.History.{History, KeepsWord}
 use Rattle.bson.specs.Tree.{Pairs}
-use Rattle.btree.specs.Keys.{Entry}
+use Rattle.tree_model.specs.Keys.{Entry}
 use Rattle.btree.specs.Scan.{entry_in}
 use Rattle.btree.specs.declared.scanning.Entry.{Entry as OwnEntry}
 use Rattle.value_order.specs.KeyText.{tree_text}

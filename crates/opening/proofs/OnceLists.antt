@@ -4,8 +4,8 @@ use Rattle.std.specs.List.{AllByRecursion, AllPairs, flat_map}
 use Rattle.std.specs.List.Sorted.{IsStrictlySortedBy}
 use Rattle.std.specs.declared.cmp.Ordering.TheVariants.{Less}
 use Rattle.value_order.specs.Order.{bytes_cmp}
-use Rattle.btree.specs.Keys.{Each, Entry, IsUnder, Rises, keep_if}
-use Rattle.btree.proofs.KeyLemmas.{not_under_itself}
+use Rattle.tree_model.specs.Keys.{Each, Entry, IsUnder, Rises, keep_if}
+use Rattle.tree_model.proofs.KeyLemmas.{not_under_itself}
 use Rattle.entries.specs.StateEntries.{entry_keys}
 use Rattle.entries.proofs.KeyOfDocument.{among_middle}
 use Rattle.entries.proofs.MemberLemmas.{Among, among_append, among_flat, among_map, first_of}

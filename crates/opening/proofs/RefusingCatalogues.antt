@@ -11,7 +11,7 @@ use Rattle.value_order.specs.Order.{value}
 use Rattle.value_order.specs.KeyText.{tree_text}
 use Rattle.value_order.specs.declared.texts.Direction.TheVariants as directions
 use Rattle.value_order.proofs.KeyLaws.{texts_order}
-use Rattle.btree.specs.Keys.{Entry, key_cmp}
+use Rattle.tree_model.specs.Keys.{Entry, key_cmp}
 use Rattle.entries.specs.LawfulState.{AreNamedApart, AreNumberedApart, IsIndexOf}
 use Rattle.entries.specs.State.{Collection, words}
 use Rattle.entries.specs.StateEntries.{catalogue_entry}

@@ -16,8 +16,8 @@ use Rattle.bson.specs.Tree.{Pairs}
 use Rattle.value_order.specs.Order.{compare}
 use Rattle.value_order.specs.KeyText.{tree_text}
 use Rattle.value_order.specs.TotalLaws.{compare_total}
-use Rattle.btree.specs.Keys.{Each, Entry, IsUnder, Rises, key_cmp, value_at}
-use Rattle.btree.proofs.KeyLemmas.{not_both, not_under_itself}
+use Rattle.tree_model.specs.Keys.{Each, Entry, IsUnder, Rises, key_cmp, value_at}
+use Rattle.tree_model.proofs.KeyLemmas.{not_both, not_under_itself}
 use Rattle.path.specs.declared.refusal.Refusal.{Refusal}
 use Rattle.path.specs.declared.refusal.Refusal.TheVariants as refusals
 use Rattle.index.specs.Changes.{is_among}

@@ -14,8 +14,8 @@ use Rattle.std.proofs.lemmas.Slice.Eq.{bytes_eq-Decides}
 use Rattle.bson.specs.Tree.{Tree, Pairs, scalar, null}
 use Rattle.bson.specs.Lookup.{lookup}
 use Rattle.bson.specs.Lawful.{IsDocument}
-use Rattle.btree.specs.Keys.{Entry}
-use Rattle.btree.proofs.ListLemmas.{map_append}
+use Rattle.tree_model.specs.Keys.{Entry}
+use Rattle.tree_model.proofs.ListLemmas.{map_append}
 use Rattle.update_model.specs.Stored.{no_array}
 use Rattle.entries.specs.Documents.{put_document, with_documents}
 use Rattle.entries.specs.Entering.{AreIndexed, clashes}

@@ -13,7 +13,7 @@ use Rattle.page.specs.Page.{IsSectorOf, page_at}
 use Rattle.page.specs.PageLaws.{IsPageModel}
 use Rattle.page.specs.declared.page_cache.PageCache.{PageCache}
 use Rattle.page.specs.declared.page_fault.PageFault.TheVariants as page_faults
-use Rattle.btree.specs.Keys.{times}
+use Rattle.tree_model.specs.Keys.{times}
 use Rattle.freelist.specs.Book.{Book, committed}
 use Rattle.freelist.specs.FreeList.{IsFreeList, first_page, pages_of, written}
 use Rattle.freelist.specs.ListWriting.{IsMade}

@@ -11,11 +11,11 @@ use Rattle.page.specs.Format.{PageModel}
 use Rattle.page.specs.History.{History, KeepsWord, now, reads}
 use Rattle.page.specs.declared.page_fault.PageFault.{PageFault}
 use Rattle.page.proofs.Moments.{reads_nothing}
-use Rattle.btree.specs.Keys.{Entry, times}
-use Rattle.btree.proofs.StoreLemmas.{counts_same}
-use Rattle.btree.specs.Store.{Frame, Grows, IsAt, Stays, flag}
-use Rattle.btree.proofs.OnceLemmas.{map_live}
-use Rattle.btree.proofs.ReachLemmas.{Moves, map_moved}
+use Rattle.tree_model.specs.Keys.{Entry, times}
+use Rattle.tree_model.proofs.StoreLemmas.{counts_same}
+use Rattle.tree_model.specs.Store.{Frame, Grows, IsAt, Stays, flag}
+use Rattle.tree_model.proofs.OnceLemmas.{map_live}
+use Rattle.tree_model.proofs.ReachLemmas.{Moves, map_moved}
 use Rattle.freelist.specs.Book.{Book, CanRewind, is_free, is_free_state, is_in_use, rewind, undone}
 use Rattle.freelist.specs.FreeList.{pages_of}
 use Rattle.freelist.specs.declared.states.PageState.{PageState}

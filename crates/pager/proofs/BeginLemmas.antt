@@ -6,11 +6,11 @@ use Rattle.std.proofs.lemmas.List.{get_or_past}
 use Rattle.page.specs.Format.{PageModel}
 use Rattle.page.specs.History.{History, KeepsWord, now, reads}
 use Rattle.page.specs.declared.page_fault.PageFault.{PageFault}
-use Rattle.btree.specs.Keys.{Each, Entry, times}
-use Rattle.btree.specs.Reach.{HasMap}
-use Rattle.btree.specs.Store.{flag}
-use Rattle.btree.proofs.ReachLemmas.{Moves, map_moved}
-use Rattle.btree.proofs.StoreLemmas.{grows_itself}
+use Rattle.tree_model.specs.Keys.{Each, Entry, times}
+use Rattle.tree_model.specs.Reach.{HasMap}
+use Rattle.tree_model.specs.Store.{flag}
+use Rattle.tree_model.proofs.ReachLemmas.{Moves, map_moved}
+use Rattle.tree_model.proofs.StoreLemmas.{grows_itself}
 use Rattle.freelist.specs.Book.{is_free, is_free_state, is_in_use, is_used_state}
 use Rattle.freelist.specs.FreeList.{pages_of}
 use Rattle.freelist.specs.declared.states.PageState.{PageState}

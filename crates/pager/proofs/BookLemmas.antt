@@ -8,9 +8,9 @@ use Rattle.std.proofs.lemmas.Bool.{cases_Bool, cases_eq}
 use Rattle.std.proofs.lemmas.Bool.Decides.{nat_tests}
 use Rattle.std.proofs.lemmas.List.{get_or-set_other, get_or-set_same, get_or_default, length-set, take_more}
 use Rattle.page.specs.Format.{PageModel}
-use Rattle.btree.specs.Keys.{times}
-use Rattle.btree.specs.Reach.{AreOnce}
-use Rattle.btree.specs.Store.{flag}
+use Rattle.tree_model.specs.Keys.{times}
+use Rattle.tree_model.specs.Reach.{AreOnce}
+use Rattle.tree_model.specs.Store.{flag}
 use Rattle.freelist.specs.Book.{Book, CanRewind, committed, freed, is_free, is_in_use, is_pinned, is_used_state, pinned, retired, retired_in, rewind, undone}
 use Rattle.freelist.specs.Book.{unpinned, without}
 use Rattle.freelist.specs.Sound.{IsSound, retired_count, times as listed, waits}

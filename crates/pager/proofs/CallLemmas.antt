@@ -7,9 +7,9 @@ use Rattle.page.specs.Content.{Content}
 use Rattle.page.specs.Format.{PageModel}
 use Rattle.page.specs.History.{History}
 use Rattle.page.specs.declared.page_cache.PageCache.{PageCache}
-use Rattle.btree.specs.Store.{HasCause, IsAt, KeepsWord, Stays, Store as Pages, flag}
-use Rattle.btree.specs.declared.pages.TreeFault.{TreeFault}
-use Rattle.btree.specs.declared.pages.TreeFault.TheVariants as faults
+use Rattle.tree_model.specs.Store.{HasCause, IsAt, KeepsWord, Stays, Store as Pages, flag}
+use Rattle.tree_model.specs.declared.pages.TreeFault.{TreeFault}
+use Rattle.tree_model.specs.declared.pages.TreeFault.TheVariants as faults
 use Rattle.freelist.specs.Book.{Book, is_free, rewind}
 use Rattle.roots.specs.declared.root.Root.{Root}
 use Rattle.roots.specs.declared.store.Store.{Store}

@@ -7,11 +7,11 @@ use Rattle.std.proofs.lemmas.List.{get_or_past}
 use Rattle.page.specs.Format.{PageModel}
 use Rattle.page.specs.History.{History, KeepsWord, now, reads}
 use Rattle.page.specs.declared.page_cache.PageCache.{PageCache}
-use Rattle.btree.specs.Keys.{Each, Entry, times}
-use Rattle.btree.specs.Reach.{AreOnce}
-use Rattle.btree.specs.Store.{Frame, flag}
-use Rattle.btree.proofs.CapacityLemmas.{entries_are_few, pages_are_few}
-use Rattle.btree.proofs.OnceLemmas.{map_live}
+use Rattle.tree_model.specs.Keys.{Each, Entry, times}
+use Rattle.tree_model.specs.Reach.{AreOnce}
+use Rattle.tree_model.specs.Store.{Frame, flag}
+use Rattle.tree_model.proofs.CapacityLemmas.{entries_are_few, pages_are_few}
+use Rattle.tree_model.proofs.OnceLemmas.{map_live}
 use Rattle.freelist.specs.Book.{Book, is_free, is_free_state, is_in_use, is_used_state}
 use Rattle.freelist.specs.declared.states.PageState.{PageState}
 use Rattle.freelist.specs.declared.states.PageState.TheVariants as states

@@ -6,7 +6,7 @@ use Rattle.page.specs.Format.{PageModel}
 use Rattle.page.specs.History.{History}
 use Rattle.page.specs.declared.page_cache.PageCache.{PageCache}
 use Rattle.page.proofs.Moments.{goes_nowhere}
-use Rattle.btree.specs.Keys.{times}
+use Rattle.tree_model.specs.Keys.{times}
 use Rattle.freelist.specs.Book.{Book, committed, undone}
 use Rattle.freelist.specs.FreeList.{first_page, written}
 use Rattle.freelist.specs.ListWriting.{IsMade}

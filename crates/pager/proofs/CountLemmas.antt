@@ -5,8 +5,8 @@ use Rattle.std.specs.List.{AllByRecursion}
 use Rattle.page.specs.Format.{PageModel}
 use Rattle.page.specs.History.{History, KeepsWord}
 use Rattle.page.specs.declared.page_cache.PageCache.{PageCache}
-use Rattle.btree.specs.Store.{IsSame, Stays, flag}
-use Rattle.btree.proofs.StoreLemmas.{grows_same}
+use Rattle.tree_model.specs.Store.{IsSame, Stays, flag}
+use Rattle.tree_model.proofs.StoreLemmas.{grows_same}
 use Rattle.freelist.specs.Book.{Book, is_free, rewind}
 use Rattle.roots.specs.Counting.{CountsPages as CountsStore}
 use Rattle.roots.specs.Image.{content_in}

@@ -7,8 +7,8 @@ use Rattle.page.specs.Format.{PageModel}
 use Rattle.page.specs.History.{History, KeepsWord, now, reads}
 use Rattle.page.specs.declared.page_cache.PageCache.{PageCache}
 use Rattle.page.proofs.Moments.{started}
-use Rattle.btree.specs.Keys.{Entry, times}
-use Rattle.btree.specs.Store.{flag}
+use Rattle.tree_model.specs.Keys.{Entry, times}
+use Rattle.tree_model.specs.Store.{flag}
 use Rattle.freelist.specs.Book.{Book, committed, is_in_use}
 use Rattle.freelist.specs.FreeList.{Part, first_page, pages_of, written}
 use Rattle.freelist.specs.ListWriting.{IsMade}

@@ -10,10 +10,10 @@ use Rattle.page.specs.History.{History, KeepsWord, now, reads}
 use Rattle.page.specs.PageLaws.{IsPageModel}
 use Rattle.page.specs.declared.page_cache.PageCache.{PageCache}
 use Rattle.page.specs.declared.page_fault.PageFault.{PageFault}
-use Rattle.btree.specs.Keys.{Entry, times}
-use Rattle.btree.specs.Reach.{HasMap}
-use Rattle.btree.proofs.ListLemmas.{each_map}
-use Rattle.btree.proofs.ReachLemmas.{Moves, map_moved}
+use Rattle.tree_model.specs.Keys.{Entry, times}
+use Rattle.tree_model.specs.Reach.{HasMap}
+use Rattle.tree_model.proofs.ListLemmas.{each_map}
+use Rattle.tree_model.proofs.ReachLemmas.{Moves, map_moved}
 use Rattle.freelist.specs.Book.{Book, committed, is_free, is_in_use, is_pinned, retired, retired_in, taken}
 use Rattle.freelist.specs.FreeList.{first_page, written}
 use Rattle.freelist.specs.ListWriting.{IsMade, TakesAll}

@@ -9,8 +9,8 @@ use Rattle.std.proofs.lemmas.Bool.Decides.{nat_tests}
 use Rattle.std.proofs.lemmas.List.{get_or-set_other, get_or-set_same, length-append, length-set}
 use Rattle.page.specs.Format.{PageModel}
 use Rattle.page.specs.declared.page_fault.PageFault.{PageFault}
-use Rattle.btree.specs.Keys.{times}
-use Rattle.btree.specs.Store.{flag}
+use Rattle.tree_model.specs.Keys.{times}
+use Rattle.tree_model.specs.Store.{flag}
 use Rattle.freelist.specs.Book.{Book, is_free, is_free_state, is_in_use, is_used_state, retired, taken}
 use Rattle.freelist.specs.FreeList.{HoldsList, written}
 use Rattle.freelist.specs.ListWriting.{TakesAll, count_with, is_unused, unused_below}

@@ -11,8 +11,8 @@ use Rattle.page.specs.Cache.{kept}
 use Rattle.page.specs.Format.{PageModel}
 use Rattle.page.specs.declared.page_cache.PageCache.{PageCache}
 use Rattle.page.specs.declared.page_fault.PageFault.{PageFault}
-use Rattle.btree.specs.Keys.{times}
-use Rattle.btree.specs.Store.{flag}
+use Rattle.tree_model.specs.Keys.{times}
+use Rattle.tree_model.specs.Store.{flag}
 use Rattle.freelist.specs.Book.{Book, CanRewind, is_in_use}
 use Rattle.freelist.specs.declared.turns.Change.{Change}
 use Rattle.roots.specs.Turn.{LieBehind, made_or, numbers_of}

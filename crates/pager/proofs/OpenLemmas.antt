@@ -12,9 +12,9 @@ use Rattle.page.specs.Crash.{ReadsOnly}
 use Rattle.page.specs.declared.page_cache.PageCache.{PageCache}
 use Rattle.page.proofs.Moments.{goes_further, leaves_further, leaves_now, reads_moments}
 use Rattle.page.proofs.TwoFacts.{reads_synced}
-use Rattle.btree.specs.Keys.{Entry, times}
-use Rattle.btree.specs.Reach.{AreOnce}
-use Rattle.btree.specs.Store.{flag}
+use Rattle.tree_model.specs.Keys.{Entry, times}
+use Rattle.tree_model.specs.Reach.{AreOnce}
+use Rattle.tree_model.specs.Store.{flag}
 use Rattle.freelist.specs.Book.{Book, is_in_use, is_used_state, opened, with_used}
 use Rattle.freelist.specs.declared.states.PageState.{PageState}
 use Rattle.freelist.specs.declared.states.PageState.TheVariants as states

@@ -9,9 +9,9 @@ use Rattle.std.proofs.lemmas.List.{drop-map, get_or-take, get_or_append_left, le
 use Rattle.std.proofs.Math.Seq.{get_or-append_seam}
 use Rattle.page.specs.Format.{PageModel}
 use Rattle.page.specs.declared.page_fault.PageFault.{PageFault}
-use Rattle.btree.specs.Keys.{times}
-use Rattle.btree.specs.Reach.{AreOnce}
-use Rattle.btree.proofs.CapacityLemmas.{pages_are_few}
+use Rattle.tree_model.specs.Keys.{times}
+use Rattle.tree_model.specs.Reach.{AreOnce}
+use Rattle.tree_model.proofs.CapacityLemmas.{pages_are_few}
 use Rattle.roots.specs.Turn.{LieBehind, made_or, numbers_of}
 use Rattle.roots.proofs.KeptPages.{made_there}
 use Rattle.pager.specs.Order.{IsOrderOf, StandsAt, no_model, pages_at}

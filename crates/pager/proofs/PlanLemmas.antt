@@ -11,8 +11,8 @@ use Rattle.page.specs.Format.{PageModel}
 use Rattle.page.specs.History.{History}
 use Rattle.page.specs.PageLaws.{IsPageModel}
 use Rattle.page.specs.declared.page_cache.PageCache.{PageCache}
-use Rattle.btree.specs.Keys.{times}
-use Rattle.btree.specs.Store.{flag}
+use Rattle.tree_model.specs.Keys.{times}
+use Rattle.tree_model.specs.Store.{flag}
 use Rattle.freelist.specs.Book.{Book, committed, is_free, is_in_use, is_pinned, is_used_state}
 use Rattle.freelist.specs.FreeList.{AreOnceBelow, first_page, times_in, written}
 use Rattle.freelist.specs.ListWriting.{IsMade, count_with}

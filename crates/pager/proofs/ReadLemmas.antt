@@ -7,8 +7,8 @@ use Rattle.page.specs.History.{History, KeepsWord, Sector, now, reads}
 use Rattle.page.specs.declared.page_fault.PageFault.{PageFault}
 use Rattle.page.specs.declared.page_cache.PageCache.{PageCache}
 use Rattle.page.proofs.Moments.{reads_nothing}
-use Rattle.btree.specs.Reading.{IsNotFull}
-use Rattle.btree.specs.declared.pages.TreeFault.{TreeFault}
+use Rattle.tree_model.specs.Reading.{IsNotFull}
+use Rattle.tree_model.specs.declared.pages.TreeFault.{TreeFault}
 use Rattle.freelist.specs.FreeList.{IsFreeList, Part}
 use Rattle.roots.specs.declared.opening.OpenFault.{OpenFault}
 use Rattle.roots.specs.declared.opening.OpenFault.TheVariants as opens

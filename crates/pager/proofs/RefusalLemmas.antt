@@ -4,7 +4,7 @@ use Rattle.std.specs.Prelude.{Ok, Err}
 use Rattle.page.specs.History.{History, KeepsWord, IsImage, now, reads}
 use Rattle.page.specs.Crash.{ReadsOnly}
 use Rattle.page.proofs.Moments.{goes_further, leaves_further, leaves_now, reads_moments, reads_nothing}
-use Rattle.btree.specs.Keys.{Entry}
+use Rattle.tree_model.specs.Keys.{Entry}
 use Rattle.roots.specs.declared.opening.OpenFault.{OpenFault}
 use Rattle.roots.specs.declared.opening.OpenFault.TheVariants as faults
 use Rattle.roots.specs.declared.root.Root.{Root}

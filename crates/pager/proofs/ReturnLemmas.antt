@@ -8,8 +8,8 @@ use Rattle.std.proofs.Math.Seq.{take-append_seam}
 use Rattle.page.specs.Format.{PageModel}
 use Rattle.page.specs.History.{History, KeepsWord, now, reads}
 use Rattle.page.specs.declared.page_fault.PageFault.{PageFault}
-use Rattle.btree.specs.Store.{Grows, IsAt, IsSame, Stays}
-use Rattle.btree.proofs.StoreLemmas.{grows_same}
+use Rattle.tree_model.specs.Store.{Grows, IsAt, IsSame, Stays}
+use Rattle.tree_model.proofs.StoreLemmas.{grows_same}
 use Rattle.freelist.specs.Book.{Book, CanRewind, is_free, is_free_state, is_in_use, rewind, undone}
 use Rattle.freelist.specs.declared.states.PageState.{PageState}
 use Rattle.freelist.specs.declared.states.PageState.TheVariants as states

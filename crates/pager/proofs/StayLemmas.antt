@@ -5,11 +5,11 @@ use Rattle.std.proofs.lemmas.Bool.{cases_eq}
 use Rattle.std.proofs.lemmas.Bool.Decides.{nat_tests}
 use Rattle.page.specs.Content.{Content}
 use Rattle.page.specs.History.{History}
-use Rattle.btree.specs.Keys.{Each, Entry, times}
-use Rattle.btree.specs.Reach.{HasMap}
-use Rattle.btree.specs.Store.{IsAt, Store as Pages}
-use Rattle.btree.proofs.OnceLemmas.{old_trees_stay}
-use Rattle.btree.proofs.ReachLemmas.{Moves, map_moved}
+use Rattle.tree_model.specs.Keys.{Each, Entry, times}
+use Rattle.tree_model.specs.Reach.{HasMap}
+use Rattle.tree_model.specs.Store.{IsAt, Store as Pages}
+use Rattle.tree_model.proofs.OnceLemmas.{old_trees_stay}
+use Rattle.tree_model.proofs.ReachLemmas.{Moves, map_moved}
 use Rattle.freelist.specs.Book.{is_pinned, without}
 use Rattle.roots.specs.declared.root.Root.{Root}
 use Rattle.pager.specs.Pinning.{VersionsStay, WaitSince}

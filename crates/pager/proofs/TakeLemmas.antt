@@ -12,11 +12,11 @@ use Rattle.page.specs.Format.{PageModel}
 use Rattle.page.specs.History.{History, now, reads}
 use Rattle.page.specs.declared.page_cache.PageCache.{PageCache}
 use Rattle.page.proofs.Moments.{reads_nothing}
-use Rattle.btree.specs.Keys.{times}
-use Rattle.btree.proofs.StoreLemmas.{counts_same}
-use Rattle.btree.specs.Store.{HasFailed, HasNoPage, IsAt, IsMade, IsSame, KeepsWord, Stays, flag}
-use Rattle.btree.specs.declared.pages.TreeFault.{TreeFault}
-use Rattle.btree.specs.declared.pages.TreeFault.TheVariants as faults
+use Rattle.tree_model.specs.Keys.{times}
+use Rattle.tree_model.proofs.StoreLemmas.{counts_same}
+use Rattle.tree_model.specs.Store.{HasFailed, HasNoPage, IsAt, IsMade, IsSame, KeepsWord, Stays, flag}
+use Rattle.tree_model.specs.declared.pages.TreeFault.{TreeFault}
+use Rattle.tree_model.specs.declared.pages.TreeFault.TheVariants as faults
 use Rattle.freelist.specs.Book.{Book, Takes, is_free, is_free_state, is_used_state, least_free, rewind, taken, undone}
 use Rattle.freelist.specs.Undone.{after, given, take as asks}
 use Rattle.freelist.specs.declared.states.PageState.{PageState}

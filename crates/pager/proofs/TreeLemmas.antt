@@ -4,10 +4,10 @@ use Rattle.std.specs.Prelude.{◌==◌, ◌||◌}
 use Rattle.std.proofs.lemmas.Bool.Decides.{nat_tests}
 use Rattle.std.proofs.lemmas.List.{length-drop, length-take}
 use Rattle.page.specs.Content.{is_of_tree}
-use Rattle.btree.specs.Keys.{Each, Entry, Pair}
-use Rattle.btree.specs.Reach.{HasMap}
-use Rattle.btree.specs.Store.{IsAt, Store}
-use Rattle.btree.specs.Tree.{Body, HasLinks, Shows, content_of, pages_of}
+use Rattle.tree_model.specs.Keys.{Each, Entry, Pair}
+use Rattle.tree_model.specs.Reach.{HasMap}
+use Rattle.tree_model.specs.Store.{IsAt, Store}
+use Rattle.tree_model.specs.Tree.{Body, HasLinks, Shows, content_of, pages_of}
 
 -- of this store
 abbrev pub IsOfTree : Store → ℕ → Type 0

@@ -4,9 +4,9 @@ use Rattle.std.specs.Prelude.{IsTrue}
 use Rattle.page.specs.History.{History, KeepsWord}
 use Rattle.page.specs.Format.{PageModel}
 use Rattle.page.specs.declared.page_cache.PageCache.{PageCache}
-use Rattle.btree.specs.Keys.{Entry}
-use Rattle.btree.specs.Reach.{HasMap}
-use Rattle.btree.specs.Store.{Grows, Store as Pages}
+use Rattle.tree_model.specs.Keys.{Entry}
+use Rattle.tree_model.specs.Reach.{HasMap}
+use Rattle.tree_model.specs.Store.{Grows, Store as Pages}
 use Rattle.freelist.specs.Book.{Book}
 use Rattle.trusted_disk.specs.Trusting.{trusting, trusted_history}
 use Rattle.trusted_disk.proofs.TrustingLemmas.{tells_word, trusts_all}

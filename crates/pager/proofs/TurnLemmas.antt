@@ -9,8 +9,8 @@ use Rattle.std.proofs.Math.Seq.{drop-append_seam, take-append_seam}
 use Rattle.page.specs.Format.{PageModel}
 use Rattle.page.specs.History.{History, Sector, KeepsWord, now, reads}
 use Rattle.page.specs.Crash.{IsDurable}
-use Rattle.btree.specs.Keys.{Entry, times}
-use Rattle.btree.specs.Store.{Stays, flag}
+use Rattle.tree_model.specs.Keys.{Entry, times}
+use Rattle.tree_model.specs.Store.{Stays, flag}
 use Rattle.freelist.specs.Book.{Book, CanRewind, is_in_use, rewind}
 use Rattle.freelist.specs.FreeList.{Part, pages_of}
 use Rattle.freelist.specs.Coding.{number_state, number_state-state_number, state_number}

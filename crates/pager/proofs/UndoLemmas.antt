@@ -4,8 +4,8 @@ use Rattle.std.proofs.lemmas.List.{length-set}
 use Rattle.page.specs.Format.{PageModel}
 use Rattle.page.specs.History.{History}
 use Rattle.page.specs.declared.page_cache.PageCache.{PageCache}
-use Rattle.btree.specs.Keys.{Entry}
-use Rattle.btree.specs.Store.{Grows, flag}
+use Rattle.tree_model.specs.Keys.{Entry}
+use Rattle.tree_model.specs.Store.{Grows, flag}
 use Rattle.freelist.specs.Book.{Book, is_in_use, rewind, undone}
 use Rattle.freelist.specs.declared.states.PageState.{PageState}
 use Rattle.freelist.specs.declared.states.PageState.TheVariants as states

@@ -7,9 +7,9 @@ use Rattle.std.proofs.lemmas.List.{get_or_past}
 use Rattle.page.specs.Format.{PageModel}
 use Rattle.page.specs.History.{History, KeepsWord}
 use Rattle.page.specs.declared.page_cache.PageCache.{PageCache}
-use Rattle.btree.specs.Keys.{Entry, times}
-use Rattle.btree.specs.Reach.{HasMap}
-use Rattle.btree.proofs.ReachLemmas.{Moves, map_moved}
+use Rattle.tree_model.specs.Keys.{Entry, times}
+use Rattle.tree_model.specs.Reach.{HasMap}
+use Rattle.tree_model.proofs.ReachLemmas.{Moves, map_moved}
 use Rattle.freelist.specs.Book.{Book, is_free_state, is_pinned, pinned, unpinned, without}
 use Rattle.freelist.specs.Sound.{retired_count, times as listed}
 use Rattle.freelist.specs.declared.states.PageState.TheVariants as states

@@ -9,11 +9,11 @@ use Rattle.page.specs.Format.{PageModel}
 use Rattle.page.specs.History.{History, KeepsWord, now, reads}
 use Rattle.page.specs.declared.page_cache.PageCache.{PageCache}
 use Rattle.page.specs.declared.page_fault.PageFault.{PageFault}
-use Rattle.btree.specs.Keys.{Each, Entry, times}
-use Rattle.btree.specs.Reach.{HasMap}
-use Rattle.btree.specs.Store.{Stays, Store, flag}
-use Rattle.btree.proofs.OnceLemmas.{map_live}
-use Rattle.btree.proofs.ReachLemmas.{Moves, map_moved}
+use Rattle.tree_model.specs.Keys.{Each, Entry, times}
+use Rattle.tree_model.specs.Reach.{HasMap}
+use Rattle.tree_model.specs.Store.{Stays, Store, flag}
+use Rattle.tree_model.proofs.OnceLemmas.{map_live}
+use Rattle.tree_model.proofs.ReachLemmas.{Moves, map_moved}
 use Rattle.freelist.specs.Book.{Book, is_in_use, is_pinned}
 use Rattle.freelist.specs.FreeList.{IsFreeList, IsPartition, Part, first_page, named_by, pages_of, room_for, times_in, written}
 use Rattle.freelist.specs.ListLaws.{used_below}

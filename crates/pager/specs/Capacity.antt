@@ -1,8 +1,8 @@
 -- How much a turn's tree may hold.
 use Rattle.std.specs.Prelude.{ℕ, ◌*◌, ◌<◌, ◌≤◌, List, length}
 use Rattle.page.specs.History.{History, KeepsWord}
-use Rattle.btree.specs.Keys.{Each, Entry}
-use Rattle.btree.specs.Reach.{AreOnce}
+use Rattle.tree_model.specs.Keys.{Each, Entry}
+use Rattle.tree_model.specs.Reach.{AreOnce}
 use Rattle.pager.specs.Commit.{IsTurn}
 use Rattle.pager.specs.State.{State}
 use Rattle.pager.specs.Turn.{IsBegun}

@@ -5,9 +5,9 @@ use Rattle.page.specs.History.{History, KeepsWord}
 use Rattle.page.specs.Crash.{ExtendsHistory, LeavesOnly, CrashLeaves}
 use Rattle.freelist.specs.Book.{Book, is_in_use, refused}
 use Rattle.freelist.specs.ListWriting.{HasNoRoom}
-use Rattle.btree.specs.Keys.{Entry, times}
-use Rattle.btree.specs.Reach.{HasMap}
-use Rattle.btree.specs.Store.{Grows}
+use Rattle.tree_model.specs.Keys.{Entry, times}
+use Rattle.tree_model.specs.Reach.{HasMap}
+use Rattle.tree_model.specs.Store.{Grows}
 use Rattle.roots.specs.Image.{StandsFor}
 use Rattle.roots.specs.Store.{HasDeviceCause, IsRunning, durable_root, is_stopped}
 use Rattle.roots.specs.declared.root.Root.{Root}

@@ -1,8 +1,8 @@
 -- What counting the pages of a pager's file gives.
 use Rattle.std.specs.Prelude.{◌≢◌, ℕ, List, Result, IfErr, IfOk, MatchResult}
 use Rattle.page.specs.History.{History, KeepsWord, now, reads}
-use Rattle.btree.specs.Keys.{Entry}
-use Rattle.btree.specs.Store.{Grows, IsSame}
+use Rattle.tree_model.specs.Keys.{Entry}
+use Rattle.tree_model.specs.Store.{Grows, IsSame}
 use Rattle.freelist.specs.FreeList.{Part}
 use Rattle.roots.specs.Counting.{AreCounts, CountsTree}
 use Rattle.roots.specs.Image.{HasList, reached_by, model_at}

@@ -1,8 +1,8 @@
 -- How many pages a file may have.
 use Rattle.std.specs.Prelude.{◌≡◌, ℕ, ◌<◌, ◌≤◌, length}
 use Rattle.page.specs.History.{History}
-use Rattle.btree.specs.Keys.{times}
-use Rattle.btree.specs.Store.{Grows}
+use Rattle.tree_model.specs.Keys.{times}
+use Rattle.tree_model.specs.Store.{Grows}
 use Rattle.roots.specs.Store.{durable_root}
 use Rattle.roots.specs.Turn.{numbers_of}
 use Rattle.pager.specs.State.{State}

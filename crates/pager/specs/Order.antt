@@ -4,7 +4,7 @@ use Rattle.std.specs.Prelude.{get_or, take, drop}
 use Rattle.std.specs.List.{AllByRecursion}
 use Rattle.page.specs.Content.{leaf}
 use Rattle.page.specs.Format.{PageModel}
-use Rattle.btree.specs.Keys.{times}
+use Rattle.tree_model.specs.Keys.{times}
 use Rattle.roots.specs.Turn.{LieBehind}
 
 -- what stands at a place where no page was made

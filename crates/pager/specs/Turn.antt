@@ -1,9 +1,9 @@
 -- Between two commits of a pager.
 use Rattle.std.specs.Prelude.{◌≡◌, ℕ, ◌<◌, Bool, ◌&&◌, ◌||◌, nat_lt, not, List, [], take, length}
 use Rattle.page.specs.History.{History, KeepsWord, now, reads}
-use Rattle.btree.specs.Keys.{Entry, times}
-use Rattle.btree.specs.Reach.{AreOnce}
-use Rattle.btree.specs.Store.{Grows, IsSame, flag}
+use Rattle.tree_model.specs.Keys.{Entry, times}
+use Rattle.tree_model.specs.Reach.{AreOnce}
+use Rattle.tree_model.specs.Store.{Grows, IsSame, flag}
 use Rattle.freelist.specs.Book.{Book, is_free, is_in_use, undone}
 use Rattle.freelist.specs.FreeList.{Part}
 use Rattle.freelist.specs.Sound.{waits}

@@ -8,7 +8,7 @@ use Rattle.freelist.specs.Book.{Book, is_free, rewind}
 use Rattle.freelist.specs.Coding.{state_number}
 use Rattle.freelist.specs.declared.states.PageState.{PageState}
 use Rattle.freelist.specs.declared.turns.Retirement.{Retirement}
-use Rattle.btree.specs.Store.{Store, flag}
+use Rattle.tree_model.specs.Store.{Store, flag}
 use Rattle.roots.specs.declared.root.Root.{Root}
 use Rattle.roots.specs.Image.{content_in, model_at}
 use Rattle.roots.specs.Store.{disk_history, durable_root, failed_reads, is_stopped}

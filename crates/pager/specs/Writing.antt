@@ -5,7 +5,7 @@ use Rattle.page.specs.Cache.{kept}
 use Rattle.page.specs.Content.{is_of_tree}
 use Rattle.page.specs.Format.{PageModel}
 use Rattle.page.specs.declared.page_cache.PageCache.{PageCache}
-use Rattle.btree.specs.Keys.{times}
+use Rattle.tree_model.specs.Keys.{times}
 use Rattle.freelist.specs.Book.{Book, is_in_use, is_pinned, retired}
 
 -- the book after these pages were retired, one after the other

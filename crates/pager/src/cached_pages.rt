@@ -1,12 +1,12 @@
 //! Pages of the committed tree, from the cache or from the disk.
 ghost use Rattle.std.specs.Prelude.{◌≡◌, IfErr};
-ghost use Rattle.btree.specs.Reading.{IsNotFull};
+ghost use Rattle.tree_model.specs.Reading.{IsNotFull};
 ghost use Rattle.pager.specs.Calls.{Keeps, ReadsPage, tree_fault};
 
-use btree::TreeFault;
 use page::{Disk, PageCache, SharedPage};
 use roots::{OpenFault, Store};
 use std::alloc::Global;
+use tree_model::TreeFault;
 
 /// Why a page of the tree wasn't read.
 fn tree_fault(fault: OpenFault) -> TreeFault

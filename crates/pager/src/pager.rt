@@ -8,12 +8,12 @@ use crate::planning::plan_commit;
 use crate::taking::{keep_lower, take_page};
 use crate::version::Version;
 use crate::writing::{forget_all, keep_all};
-use btree::{Pages, TreeFault};
 use freelist::FreePages;
 use page::{Disk, PageCache, PageContent, SharedPage};
 use roots::{CommitFault, MAX_PAGES, OpenFault, PageCounts, Store};
 use std::alloc::{AllocError, Global};
 use std::marker::Model;
+use tree_model::{Pages, TreeFault};
 use trusted_disk::TrustedDisk;
 
 /// The pages of a database file: those of the tree that is committed, read through a cache, and those that

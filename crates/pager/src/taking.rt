@@ -3,13 +3,13 @@ ghost use Rattle.std.specs.Prelude.{◌≡◌, nat_lt, Some, IfOk, IfErr};
 ghost use Rattle.std.specs.List.{filter};
 ghost use Rattle.freelist.specs.Book.{Takes};
 ghost use Rattle.page.specs.Format.{IsFit, PageModel};
-ghost use Rattle.btree.specs.View.{content_in};
+ghost use Rattle.tree_model.specs.View.{content_in};
 ghost use Rattle.pager.specs.Calls.{Refuses};
 
-use btree::TreeFault;
 use freelist::FreePages;
 use page::{PageContent, PageImage, SharedPage};
 use std::alloc::Global;
+use tree_model::TreeFault;
 
 /// Makes a page of this content on the least free page.
 pub(crate) fn take_page(

@@ -2,7 +2,7 @@
 use Rattle.std.proofs.Common.{◌≡◌, ℕ, zero, suc, ◌+◌, ◌<◌, List, [], ◌∷◌, ◌++◌, length, Option, Some, None, refl, ap, arith}
 use Rattle.std.specs.Prelude.{slice_index_or, slice_set, remove}
 use Rattle.std.specs.List.{AllByRecursion}
-use Rattle.btree.specs.Keys.{times}
+use Rattle.tree_model.specs.Keys.{times}
 use Rattle.cursors.specs.Held.{HeldCursor, HeldWalk, no_held_cursor}
 use Rattle.pinned_cursors.specs.Tied.{pins_by, with_pin}
 

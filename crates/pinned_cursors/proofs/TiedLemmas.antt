@@ -4,7 +4,7 @@ use Rattle.std.specs.Prelude.{◌&&◌, ⊤, MatchOption, Ok, slice_index_or, sl
 use Rattle.std.specs.List.{AllByRecursion}
 use Rattle.bson.specs.Tree.{Pairs}
 use Rattle.page.specs.History.{History, KeepsWord}
-use Rattle.btree.specs.Keys.{times}
+use Rattle.tree_model.specs.Keys.{times}
 use Rattle.pager.specs.Pinning.{IsPinned}
 use Rattle.pager.specs.declared.version.Version.{Version}
 use Rattle.pager.proofs.BookLemmas.{one_time}

@@ -5,7 +5,7 @@ use Rattle.std.specs.List.{AllByRecursion, filter}
 use Rattle.entries.specs.State.{Collection}
 use Rattle.pager.specs.declared.version.Version.{Version}
 use Rattle.page.specs.History.{History, KeepsWord}
-use Rattle.btree.specs.Keys.{times}
+use Rattle.tree_model.specs.Keys.{times}
 use Rattle.roots.specs.declared.store.CommitFault.{CommitFault}
 use Rattle.collections.specs.Calls.{ExtendsTurn}
 use Rattle.collections.specs.Committing.{CommitsCollections}

@@ -5,7 +5,7 @@ use Rattle.std.specs.Prelude.{Result, Ok, Err, IfErr, IfOk, MatchResult, is_ok}
 use Rattle.page.specs.Format.{PageModel}
 use Rattle.page.specs.History.{History, KeepsWord, Sector, now, reads}
 use Rattle.page.specs.declared.page_fault.PageFault.{PageFault}
-use Rattle.btree.specs.Keys.{Entry}
+use Rattle.tree_model.specs.Keys.{Entry}
 use Rattle.freelist.specs.Book.{Book, opened}
 use Rattle.freelist.specs.FreeList.{IsFreeList, Part, named_by, opened_by, pages_of}
 use Rattle.freelist.specs.ListReading.{IsListOn, ReadsList}

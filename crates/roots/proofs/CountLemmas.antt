@@ -10,10 +10,10 @@ use Rattle.page.specs.History.{History, KeepsWord, now, reads}
 use Rattle.page.specs.Page.{page_at}
 use Rattle.page.specs.declared.page_fault.PageFault.{PageFault}
 use Rattle.page.specs.declared.page_fault.PageFault.TheVariants as page_faults
-use Rattle.btree.specs.Keys.{Each, Entry, times}
-use Rattle.btree.specs.Reach.{AreOnce}
-use Rattle.btree.proofs.CapacityLemmas.{pages_are_few}
-use Rattle.btree.proofs.OnceLemmas.{map_live}
+use Rattle.tree_model.specs.Keys.{Each, Entry, times}
+use Rattle.tree_model.specs.Reach.{AreOnce}
+use Rattle.tree_model.proofs.CapacityLemmas.{pages_are_few}
+use Rattle.tree_model.proofs.OnceLemmas.{map_live}
 use Rattle.freelist.specs.FreeList.{Part, first_page, named_by, pages_of, room_for}
 use Rattle.freelist.proofs.ListedBooks.{room_is}
 use Rattle.freelist.proofs.Marking.{times_in-append}

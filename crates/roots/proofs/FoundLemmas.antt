@@ -18,17 +18,18 @@ use Rattle.page.specs.Format.{PageModel, model_in}
 use Rattle.page.specs.Page.{page_at}
 use Rattle.page.specs.declared.page_fault.PageFault.{PageFault}
 use Rattle.page.specs.declared.page_fault.PageFault.TheVariants as page_faults
-use Rattle.btree.specs.Calls.{IsPart}
-use Rattle.btree.specs.Keys.{Each, IsBetween, IsPast, IsUnder, IsWithin, Pair, Rises}
-use Rattle.btree.specs.Search.{AreBounds}
-use Rattle.btree.specs.Store.{IsAt, Store}
-use Rattle.btree.specs.Tree.{Body, HasChain, HasLinks, IsFan, IsSound, IsWhole, Shows, Subtree, pivot_of, content_of, item_of, next_of, pages_of, pair_keys}
-use Rattle.btree.specs.Tree.{place_of, subtree_keys, with_low}
-use Rattle.btree.proofs.FanLemmas.{fan_append}
-use Rattle.btree.proofs.GetLemmas.{child_part}
-use Rattle.btree.proofs.KeyLemmas.{under_trans, up_to_then_under, within_wider}
-use Rattle.btree.proofs.ListLemmas.{At, each_append, each_map, flat_append, long_map, map_append, rises_append, take_more}
-use Rattle.btree.proofs.SearchLemmas.{got_itself}
+use Rattle.tree_model.specs.Calls.{IsPart}
+use Rattle.tree_model.specs.Keys.{Each, IsBetween, IsPast, IsUnder, IsWithin, Pair, Rises}
+use Rattle.tree_model.specs.Search.{AreBounds}
+use Rattle.tree_model.specs.Store.{IsAt, Store}
+use Rattle.tree_model.specs.Tree.{Body, HasChain, HasLinks, IsFan, IsSound, IsWhole, Shows, Subtree, pivot_of, content_of, item_of, next_of, pages_of}
+use Rattle.tree_model.specs.Tree.{pair_keys}
+use Rattle.tree_model.specs.Tree.{place_of, subtree_keys, with_low}
+use Rattle.tree_model.proofs.FanLemmas.{fan_append}
+use Rattle.tree_model.proofs.GetLemmas.{child_part}
+use Rattle.tree_model.proofs.KeyLemmas.{under_trans, up_to_then_under, within_wider}
+use Rattle.tree_model.proofs.ListLemmas.{At, each_append, each_map, flat_append, long_map, map_append, rises_append, take_more}
+use Rattle.tree_model.proofs.SearchLemmas.{got_itself}
 use Rattle.page.specs.History.{History, now}
 use Rattle.roots.specs.declared.opening.OpenFault.{OpenFault}
 use Rattle.roots.specs.declared.opening.OpenFault.TheVariants as faults

@@ -6,11 +6,11 @@ use Rattle.page.specs.Crash.{ReadsOnly, IsDurable}
 use Rattle.page.specs.Format.{PageModel}
 use Rattle.page.specs.ImageView.{model_of}
 use Rattle.page.specs.declared.page_image.PageImage.{PageImage}
-use Rattle.btree.specs.Calls.{IsPart}
-use Rattle.btree.specs.Keys.{Entry, times}
-use Rattle.btree.specs.Tree.{Body, entries_of, pages_of}
-use Rattle.btree.proofs.GetLemmas.{root_part}
-use Rattle.btree.specs.Reach.{AreOnce}
+use Rattle.tree_model.specs.Calls.{IsPart}
+use Rattle.tree_model.specs.Keys.{Entry, times}
+use Rattle.tree_model.specs.Tree.{Body, entries_of, pages_of}
+use Rattle.tree_model.proofs.GetLemmas.{root_part}
+use Rattle.tree_model.specs.Reach.{AreOnce}
 use Rattle.roots.specs.declared.opening.OpenFault.{OpenFault}
 use Rattle.roots.specs.declared.opening.OpenFault.TheVariants as faults
 use Rattle.roots.specs.declared.root.Root.{Root}

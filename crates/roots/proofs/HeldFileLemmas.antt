@@ -6,7 +6,7 @@ use Rattle.std.proofs.lemmas.Bool.Decides.{nat_tests}
 use Rattle.page.specs.Format.{PageModel}
 use Rattle.page.specs.History.{History}
 use Rattle.page.specs.declared.page_fault.PageFault.{PageFault}
-use Rattle.btree.specs.Keys.{Entry, times}
+use Rattle.tree_model.specs.Keys.{Entry, times}
 use Rattle.freelist.specs.Book.{opened}
 use Rattle.freelist.specs.FreeList.{Part, named_by, opened_by, pages_of, room_for, times_in}
 use Rattle.freelist.specs.ListReading.{AreAllBelow, ReadsList}

@@ -9,8 +9,8 @@ use Rattle.std.proofs.lemmas.Bool.Decides.{nat_tests}
 use Rattle.page.specs.declared.page_fault.PageFault.{PageFault}
 use Rattle.page.specs.declared.page_fault.PageFault.TheVariants as faults
 use Rattle.page.proofs.PageSteps.{bytes_from_same}
-use Rattle.btree.specs.Keys.{Each, Entry}
-use Rattle.btree.proofs.ReachLemmas.{Moves, map_moved}
+use Rattle.tree_model.specs.Keys.{Each, Entry}
+use Rattle.tree_model.proofs.ReachLemmas.{Moves, map_moved}
 use Rattle.freelist.specs.FreeList.{HoldsList, Part, pages_of}
 use Rattle.freelist.proofs.WrittenLists.{reading_is_exact}
 use Rattle.roots.specs.Root.{root_of}

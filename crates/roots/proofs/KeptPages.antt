@@ -11,9 +11,9 @@ use Rattle.page.specs.Page.{page_at}
 use Rattle.page.specs.declared.page_fault.PageFault.{PageFault}
 use Rattle.page.specs.declared.page_fault.PageFault.TheVariants as faults
 use Rattle.page.specs.History.{History, now, reads}
-use Rattle.btree.specs.Keys.{Each, Entry}
-use Rattle.btree.specs.Store.{IsAt}
-use Rattle.btree.proofs.ReachLemmas.{Moves, map_moved}
+use Rattle.tree_model.specs.Keys.{Each, Entry}
+use Rattle.tree_model.specs.Store.{IsAt}
+use Rattle.tree_model.proofs.ReachLemmas.{Moves, map_moved}
 use Rattle.freelist.specs.FreeList.{AreOnceBelow, HoldsList, IsPartition, ListContent, Part, named_by, pages_of}
 use Rattle.roots.specs.declared.root.Root.{Root}
 use Rattle.roots.specs.Image.{HasList, list_in, listed_model, model_at, store_of, content_in as content_of}

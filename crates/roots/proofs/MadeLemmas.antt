@@ -16,7 +16,7 @@ use Rattle.page.specs.declared.page_fault.PageFault.{PageFault}
 use Rattle.page.specs.declared.page_fault.PageFault.TheVariants as faults
 use Rattle.page.proofs.PageSteps.{bytes_from_same}
 use Rattle.page.proofs.PagesBack.{reads_back}
-use Rattle.btree.specs.Keys.{times}
+use Rattle.tree_model.specs.Keys.{times}
 use Rattle.roots.specs.Image.{model_at, IsOnPages, IsKept}
 use Rattle.roots.specs.Turn.{numbers_of, LieBehind, made_or, end_behind, AreWritten}
 use Rattle.roots.specs.declared.root.Root.{Root}

@@ -7,8 +7,8 @@ use Rattle.std.proofs.lemmas.Bool.Decides.{nat_tests}
 use Rattle.std.proofs.lemmas.List.{get_or-set_same, get_or-set_other}
 use Rattle.std.proofs.Common.{replicate}
 use Rattle.std.proofs.lemmas.List.{length-replicate}
-use Rattle.btree.specs.Keys.{times}
-use Rattle.btree.specs.Reach.{AreOnce}
+use Rattle.tree_model.specs.Keys.{times}
+use Rattle.tree_model.specs.Reach.{AreOnce}
 use Rattle.roots.specs.declared.reachable_pages.Reached.{Reached}
 use Rattle.roots.specs.Walk.{IsMarked, pages_so_far}
 

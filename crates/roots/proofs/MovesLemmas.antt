@@ -5,7 +5,7 @@ use Rattle.page.specs.Format.{PageModel}
 use Rattle.page.specs.History.{History, KeepsWord, now, reads}
 use Rattle.page.specs.Crash.{ExtendsHistory, LeavesOnly, IsImageOutside, AreDurable, put}
 use Rattle.page.proofs.Moments.{leaves_weaker, started}
-use Rattle.btree.specs.Keys.{Entry}
+use Rattle.tree_model.specs.Keys.{Entry}
 use Rattle.roots.specs.Replace.{IsOldOrPut}
 use Rattle.roots.specs.Root.{root_bytes}
 use Rattle.roots.specs.declared.root.Root.{Root}

@@ -3,11 +3,11 @@ use Rattle.std.proofs.Common.{◌≡◌, ℕ, zero, suc, ◌<◌, List, [], ◌�
 use Rattle.std.specs.Prelude.{Result, Ok}
 use Rattle.std.proofs.lemmas.List.{take-append-drop}
 use Rattle.page.specs.Content.{Content, Item, Pivot, chain}
-use Rattle.btree.specs.Keys.{Each, Entry, Pair, entry_of}
-use Rattle.btree.specs.Store.{Store, IsAt}
-use Rattle.btree.specs.Tree.{Body, HasChain, HasLinks, Shows, Subtree, pivot_of, content_of, entries_of, item_of, next_of, pairs_of, place_of, pages_of}
-use Rattle.btree.proofs.ListLemmas.{map_append}
-use Rattle.btree.specs.Reach.{HasMap}
+use Rattle.tree_model.specs.Keys.{Each, Entry, Pair, entry_of}
+use Rattle.tree_model.specs.Store.{Store, IsAt}
+use Rattle.tree_model.specs.Tree.{Body, HasChain, HasLinks, Shows, Subtree, pivot_of, content_of, entries_of, item_of, next_of, pairs_of, place_of, pages_of}
+use Rattle.tree_model.proofs.ListLemmas.{map_append}
+use Rattle.tree_model.specs.Reach.{HasMap}
 use Rattle.roots.specs.declared.opening.OpenFault.{OpenFault}
 use Rattle.roots.specs.declared.root.Root.{Root}
 use Rattle.roots.specs.Image.{HoldsMap, StandsFor, model_at, store_of}

@@ -5,7 +5,7 @@ use Rattle.std.proofs.lemmas.Bool.Decides.{nat_tests}
 use Rattle.page.specs.History.{Sector, reads}
 use Rattle.page.specs.Crash.{IsDurable, put}
 use Rattle.page.proofs.TwoFacts.{secured, put_same, put_other}
-use Rattle.btree.specs.Keys.{Entry}
+use Rattle.tree_model.specs.Keys.{Entry}
 use Rattle.freelist.specs.FreeList.{Part}
 use Rattle.roots.specs.Root.{root_in, both, newer_root, root_bytes, IsPossible}
 use Rattle.roots.specs.Replace.{IsOldOrPut}

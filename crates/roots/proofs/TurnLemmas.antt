@@ -8,7 +8,7 @@ use Rattle.page.specs.Format.{PageModel}
 use Rattle.page.specs.PageLaws.{IsPageModel}
 use Rattle.page.proofs.Moments.{leaves_further, leaves_weaker}
 use Rattle.page.proofs.TwoFacts.{secured, secured_outside}
-use Rattle.btree.specs.Keys.{Entry}
+use Rattle.tree_model.specs.Keys.{Entry}
 use Rattle.freelist.specs.FreeList.{Part}
 use Rattle.roots.specs.Replace.{IsOldOrPut}
 use Rattle.roots.specs.Root.{IsPossible, root_bytes}

@@ -5,19 +5,19 @@ use Rattle.std.specs.Prelude.{is_ok, Some, slice_get, Result, Ok, Err, IfErr, Is
 use Rattle.std.specs.List.{flat_map}
 use Rattle.std.proofs.lemmas.List.{take_all}
 use Rattle.page.specs.Content.{Pivot, Content, Item, branch, chain, inline, leaf, spilled}
-use Rattle.btree.proofs.ListLemmas.{At, each_back, flat_append}
+use Rattle.tree_model.proofs.ListLemmas.{At, each_back, flat_append}
 use Rattle.page.specs.Format.{PageModel}
 use Rattle.page.specs.History.{History, Sector, now, reads}
 use Rattle.page.specs.Crash.{HasRead, ReadsOnly}
 use Rattle.page.specs.declared.page_fault.PageFault.{PageFault}
 use Rattle.page.proofs.Moments.{reads_further}
-use Rattle.btree.specs.Keys.{Each, times}
+use Rattle.tree_model.specs.Keys.{Each, times}
 use Rattle.std.proofs.Common.{Vec, Global}
 use Rattle.page.specs.View.{content_of}
 use Rattle.page.specs.declared.page_content.PageContent.{PageContent}
 use Rattle.page.specs.declared.page_content.PageContent.TheVariants as contents
-use Rattle.btree.specs.Store.{Store, IsAt}
-use Rattle.btree.specs.Tree.{Body, HasLinks, Shows, Subtree, pivot_of, content_of as content_by, item_of, next_of, place_of, pages_of}
+use Rattle.tree_model.specs.Store.{Store, IsAt}
+use Rattle.tree_model.specs.Tree.{Body, HasLinks, Shows, Subtree, pivot_of, content_of as content_by, item_of, next_of, place_of, pages_of}
 use Rattle.roots.specs.declared.opening.OpenFault.{OpenFault}
 use Rattle.roots.specs.declared.opening.OpenFault.TheVariants as faults
 use Rattle.roots.specs.declared.root.Root.{Root}

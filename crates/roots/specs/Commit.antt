@@ -5,7 +5,7 @@ use Rattle.std.specs.List.{AllByRecursion}
 use Rattle.page.specs.Format.{PageModel}
 use Rattle.page.specs.History.{History, KeepsWord, now, reads}
 use Rattle.page.specs.Crash.{ExtendsHistory, LeavesOnly, CrashLeaves}
-use Rattle.btree.specs.Keys.{Entry}
+use Rattle.tree_model.specs.Keys.{Entry}
 use Rattle.roots.specs.Image.{IsOnPages, StandsFor}
 use Rattle.roots.specs.Store.{disk_history, durable_root, failed_reads, is_stopped, IsRunning}
 use Rattle.roots.specs.Store.{HasDeviceCause, IsCommitted, Keeps}

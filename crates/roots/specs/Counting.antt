@@ -1,7 +1,7 @@
 -- How many pages a file has, and how many of them nothing reaches.
 use Rattle.std.specs.Prelude.{◌≡◌, ◌≢◌, ℕ, ◌+◌, max, List, length, Result, IfOk, MatchResult}
 use Rattle.page.specs.History.{History, KeepsWord, now, reads}
-use Rattle.btree.specs.Keys.{Entry}
+use Rattle.tree_model.specs.Keys.{Entry}
 use Rattle.roots.specs.HeldFile.{Reaches}
 use Rattle.freelist.specs.FreeList.{Part}
 use Rattle.roots.specs.Image.{HasList, reached_by, model_at}

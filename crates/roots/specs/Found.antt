@@ -2,12 +2,12 @@
 use Rattle.std.specs.Prelude.{◌≡◌, ◌≢◌, ℕ, ◌<◌, suc, zero, List, [], ◌∷◌, ◌++◌, length, take, drop}
 use Rattle.std.specs.Prelude.{map, Option, Some, Result, Ok, Err}
 use Rattle.page.specs.Content.{Pivot, Item, Place}
-use Rattle.btree.specs.Keys.{Each, IsBetween, IsWithin, Pair, Rises}
-use Rattle.btree.specs.Store.{IsAt, Store}
-use Rattle.btree.specs.Tree.{Body, HasLinks, IsFan, IsSound, IsWhole, Shows, Subtree, pivot_of}
-use Rattle.btree.specs.Tree.{content_of, item_of, next_of, pages_of, pair_keys, place_of}
-use Rattle.btree.specs.Tree.{subtree_keys}
-use Rattle.btree.specs.Tree.{with_low}
+use Rattle.tree_model.specs.Keys.{Each, IsBetween, IsWithin, Pair, Rises}
+use Rattle.tree_model.specs.Store.{IsAt, Store}
+use Rattle.tree_model.specs.Tree.{Body, HasLinks, IsFan, IsSound, IsWhole, Shows, Subtree, pivot_of}
+use Rattle.tree_model.specs.Tree.{content_of, item_of, next_of, pages_of, pair_keys, place_of}
+use Rattle.tree_model.specs.Tree.{subtree_keys}
+use Rattle.tree_model.specs.Tree.{with_low}
 use Rattle.roots.specs.declared.opening.OpenFault.{OpenFault}
 use Rattle.roots.specs.declared.opening.OpenFault.TheVariants as faults
 

@@ -4,7 +4,7 @@ use Rattle.std.specs.Prelude.{Result, MatchResult}
 use Rattle.page.specs.Format.{PageModel}
 use Rattle.page.specs.History.{History, KeepsWord, now, reads}
 use Rattle.page.specs.declared.page_fault.PageFault.{PageFault}
-use Rattle.btree.specs.Keys.{Entry, times}
+use Rattle.tree_model.specs.Keys.{Entry, times}
 use Rattle.freelist.specs.Book.{opened}
 use Rattle.freelist.specs.FreeList.{Part, named_by, opened_by}
 use Rattle.freelist.specs.FreeList.{pages_of, room_for, times_in}

@@ -6,9 +6,9 @@ use Rattle.page.specs.Format.{PageModel, model_in}
 use Rattle.page.specs.Page.{page_at, IsSectorOf}
 use Rattle.page.specs.declared.page_fault.PageFault.{PageFault}
 use Rattle.page.specs.declared.page_fault.PageFault.TheVariants as faults
-use Rattle.btree.specs.Keys.{Entry}
-use Rattle.btree.specs.Store.{Store, no_device}
-use Rattle.btree.specs.Reach.{HasMap, AreOnce}
+use Rattle.tree_model.specs.Keys.{Entry}
+use Rattle.tree_model.specs.Store.{Store, no_device}
+use Rattle.tree_model.specs.Reach.{HasMap, AreOnce}
 use Rattle.freelist.specs.FreeList.{IsFreeList, IsPartition, ListContent, Part, pages_of}
 use Rattle.roots.specs.Root.{root_of}
 use Rattle.roots.specs.declared.root.Root.{Root}

@@ -2,7 +2,7 @@
 use Rattle.std.specs.Prelude.{◌≡◌, ◌≢◌, ℕ, ◌<◌, List, Err}
 use Rattle.page.specs.History.{History, KeepsWord, now, reads, IsImage}
 use Rattle.page.specs.Crash.{ExtendsHistory, LeavesOnly, CrashLeaves, OnlySyncs, ReadsOnly}
-use Rattle.btree.specs.Keys.{Entry}
+use Rattle.tree_model.specs.Keys.{Entry}
 use Rattle.roots.specs.Root.{IsKnown, root_of}
 use Rattle.roots.specs.Image.{OpensAs, HoldsMap, StandsFor, model_at}
 use Rattle.roots.specs.Store.{IsRunning, IsCommitted, disk_history, durable_root, failed_reads}

@@ -2,7 +2,7 @@
 use Rattle.std.specs.Prelude.{◌≡◌, ◌⊎◌, ℕ, ◌+◌, ◌<◌, ◌≤◌, max, min, Bool, List, true, false}
 use Rattle.page.specs.History.{History, KeepsWord, now, reads}
 use Rattle.page.specs.Crash.{IsDurable}
-use Rattle.btree.specs.Keys.{Entry}
+use Rattle.tree_model.specs.Keys.{Entry}
 use Rattle.freelist.specs.FreeList.{Part}
 use Rattle.roots.specs.Image.{HasList, HoldsMap, IsKept, OpensAs, reached_by, model_at}
 use Rattle.roots.specs.declared.opening.OpenFault.{OpenFault}

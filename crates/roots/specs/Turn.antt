@@ -7,7 +7,7 @@ use Rattle.page.specs.Format.{PageModel, page_bytes}
 use Rattle.page.specs.Page.{page_at}
 use Rattle.page.specs.PageLaws.{IsPageModel}
 use Rattle.page.specs.declared.page_fault.PageFault.{PageFault}
-use Rattle.btree.specs.Keys.{Entry, times}
+use Rattle.tree_model.specs.Keys.{Entry, times}
 use Rattle.freelist.specs.FreeList.{Part}
 use Rattle.roots.specs.Image.{HasList, HoldsMap, reached_by, model_at}
 use Rattle.roots.specs.declared.root.Root.{Root}

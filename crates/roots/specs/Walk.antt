@@ -11,8 +11,8 @@ use Rattle.page.specs.Format.{PageModel}
 use Rattle.page.specs.ImageView.{model_of}
 use Rattle.page.specs.declared.page_fault.PageFault.{PageFault}
 use Rattle.page.specs.declared.page_image.PageImage.{PageImage}
-use Rattle.btree.specs.Keys.{Entry, times}
-use Rattle.btree.specs.Store.{Store as Pages}
+use Rattle.tree_model.specs.Keys.{Entry, times}
+use Rattle.tree_model.specs.Store.{Store as Pages}
 use Rattle.freelist.specs.Book.{Book, opened}
 use Rattle.freelist.specs.FreeList.{IsFreeList, Part, pages_of}
 use Rattle.freelist.specs.Sound.{IsSound}

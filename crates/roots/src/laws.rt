@@ -1,6 +1,6 @@
 //! Laws of the definitions, and the numbers that this crate fixes.
 ghost use Rattle.std.specs.Prelude.{◌≡◌, ℕ, List};
-ghost use Rattle.btree.specs.Keys.{Entry};
+ghost use Rattle.tree_model.specs.Keys.{Entry};
 ghost use Rattle.roots.specs.HeldFile.{HoldsOneFile, ListTellsBook, NamesTheRest, NoListIsTree, ReachedDecides};
 ghost use Rattle.roots.specs.Image.{StandsFor};
 ghost use Rattle.roots.specs.Listed.{WrittenListIsThere, WrittenListIsRead};

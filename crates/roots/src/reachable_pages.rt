@@ -6,19 +6,19 @@ ghost use Rattle.page.specs.Format.{PageModel};
 ghost use Rattle.page.specs.CellView.{place_of as place_in};
 ghost use Rattle.page.specs.Content.{IsLeaf, IsPlace};
 ghost use Rattle.page.specs.ImageView.{model_of};
-ghost use Rattle.btree.specs.Calls.{IsPart};
-ghost use Rattle.btree.specs.Keys.{Each, Entry, IsBetween, Pair};
-ghost use Rattle.btree.specs.Tree.{Body, HasChain, HasLinks, Shows, item_of, next_of, pair_keys, place_of, pages_of};
-ghost use Rattle.btree.specs.Reach.{AreOnce};
+ghost use Rattle.tree_model.specs.Calls.{IsPart};
+ghost use Rattle.tree_model.specs.Keys.{Each, Entry, IsBetween, Pair};
+ghost use Rattle.tree_model.specs.Tree.{Body, HasChain, HasLinks, Shows, item_of, next_of, pair_keys, place_of, pages_of};
+ghost use Rattle.tree_model.specs.Reach.{AreOnce};
 ghost use Rattle.roots.specs.Found.{HasFoundChain, HasFoundPairs, HasFoundPart, HasFoundValue, ReachesDepth};
 ghost use Rattle.roots.specs.Image.{HoldsTree, model_at};
 ghost use Rattle.roots.specs.Walk.{is_of_tree, CanReach, KeepsMarks, Looks, Reaches, pages_in, pages_so_far};
 
 use crate::opening::OpenFault;
 use crate::root::Root;
-use btree::{high_bound, is_between, is_within, low_bound};
 use page::{Disk, Leaf, PageContent, PageFault, PageImage, Stored, read_page};
 use std::alloc::Global;
+use tree_model::{high_bound, is_between, is_within, low_bound};
 
 /// The most bytes of a value in one page of its chain.
 const LINK: usize = 4076;

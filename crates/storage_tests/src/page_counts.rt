@@ -1,12 +1,13 @@
 //! How many pages files have, and what is free again: no contract bounds the pages of a tree.
 
-use btree::{Pages, insert, remove};
+use btree::{insert, remove};
 use freelist::{FreePages, NoMemory};
 use page::{MemDisk, PageContent};
 use pager::Pager;
 use roots::Store;
 use std::alloc::Global;
 use std::test::Fail;
+use tree_model::Pages;
 
 /// The longest value.
 const VALUE: &[u8] = &[7; 65_535];

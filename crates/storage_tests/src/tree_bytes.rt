@@ -1,11 +1,12 @@
 //! Trees whose pages are written out byte by byte, read through a pager.
 
 use crate::damaged_files::{CHAINS, TREE, file_of};
-use btree::{Range, TreeFault, get, scan};
+use btree::{Range, get, scan};
 use page::MemDisk;
 use pager::Pager;
 use std::alloc::Global;
 use std::test::Fail;
+use tree_model::TreeFault;
 
 /// A root page, a key, and the value there.
 type Found = (u32, &'static [u8], Result<Option<&'static [u8]>, TreeFault>);

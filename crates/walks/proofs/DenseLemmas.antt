@@ -16,7 +16,7 @@ use Rattle.bson.specs.Tree.{Pairs}
 use Rattle.value_order.specs.KeyText.{tree_text}
 use Rattle.value_order.specs.Order.{bytes_cmp}
 use Rattle.page.specs.History.{History}
-use Rattle.btree.specs.Keys.{is_within}
+use Rattle.tree_model.specs.Keys.{is_within}
 use Rattle.btree.specs.declared.folding.Bounds.{Bounds}
 use Rattle.path.specs.declared.refusal.Refusal.{Refusal}
 use Rattle.entries.specs.State.{key_of}

@@ -10,7 +10,7 @@ use Rattle.bson.specs.Tree.{Tree, scalar, document, array, Pairs}
 use Rattle.value_order.specs.KeyText.{tree_text}
 use Rattle.page.specs.History.{History}
 use Rattle.path.specs.declared.refusal.Refusal.{Refusal}
-use Rattle.btree.specs.Keys.{is_within, key_cmp}
+use Rattle.tree_model.specs.Keys.{is_within, key_cmp}
 use Rattle.btree.specs.declared.folding.Bounds.{Bounds}
 use Rattle.filter.specs.Condition.{Conditions}
 use Rattle.filter.specs.Matches.{matches}

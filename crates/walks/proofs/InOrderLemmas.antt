@@ -14,8 +14,8 @@ use Rattle.std.proofs.lemmas.List.{take-append-drop}
 use Rattle.std.proofs.lemmas.List.Elements.{All-filter}
 use Rattle.bson.specs.Tree.{Pairs}
 use Rattle.value_order.specs.Order.{Key, bytes_cmp, compare}
-use Rattle.btree.specs.Keys.{key_cmp}
-use Rattle.btree.proofs.KeyLemmas.{under_trans}
+use Rattle.tree_model.specs.Keys.{key_cmp}
+use Rattle.tree_model.proofs.KeyLemmas.{under_trans}
 use Rattle.filter.specs.Condition.{Conditions}
 use Rattle.filter.specs.Matches.{matches}
 use Rattle.projection.specs.Projection.{Projection, project}

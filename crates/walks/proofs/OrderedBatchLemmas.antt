@@ -12,10 +12,10 @@ use Rattle.std.proofs.lemmas.List.{length-map, map-append}
 use Rattle.std.proofs.lemmas.List.Elements.{All-append}
 use Rattle.std.proofs.lemmas.List.Sorted.{length_permutation}
 use Rattle.bson.specs.Tree.{Pairs}
-use Rattle.btree.specs.Keys.{Each, IsNotUnder, IsUnder, Rises, key_cmp}
+use Rattle.tree_model.specs.Keys.{Each, IsNotUnder, IsUnder, Rises, key_cmp}
 use Rattle.value_order.specs.Order.{bytes_cmp}
-use Rattle.btree.proofs.KeyLemmas.{three, under_then_up_to}
-use Rattle.btree.proofs.ListLemmas.{rises_append}
+use Rattle.tree_model.proofs.KeyLemmas.{three, under_then_up_to}
+use Rattle.tree_model.proofs.ListLemmas.{rises_append}
 use Rattle.filter.specs.Matches.{matches}
 use Rattle.projection.specs.Projection.{project}
 use Rattle.sort.specs.Sort.{SortField, compare_by, order}

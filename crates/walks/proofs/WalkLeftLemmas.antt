@@ -17,7 +17,7 @@ use Rattle.value_order.specs.KeyText.{tree_text}
 use Rattle.value_order.specs.Order.{compare, value}
 use Rattle.value_order.specs.declared.texts.Direction.TheVariants.{Ascending}
 use Rattle.value_order.proofs.KeyLaws.{texts_order}
-use Rattle.btree.specs.Keys.{is_within, key_cmp}
+use Rattle.tree_model.specs.Keys.{is_within, key_cmp}
 use Rattle.command_model.specs.Find.{Query}
 use Rattle.filter.specs.Condition.{Conditions}
 use Rattle.filter.specs.Matches.{matches}

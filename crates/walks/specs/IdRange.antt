@@ -5,7 +5,7 @@ use Rattle.std.specs.List.{filter}
 use Rattle.std.specs.Ordering.{is_lt}
 use Rattle.bson.specs.Tree.{Pairs}
 use Rattle.value_order.specs.KeyText.{tree_text}
-use Rattle.btree.specs.Keys.{is_within, key_cmp}
+use Rattle.tree_model.specs.Keys.{is_within, key_cmp}
 use Rattle.btree.specs.declared.folding.Bounds.{Bounds}
 use Rattle.filter.specs.Condition.{Conditions}
 use Rattle.entries.specs.LawfulState.{IsStorable}

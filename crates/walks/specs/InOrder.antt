@@ -8,7 +8,7 @@ use Rattle.std.specs.declared.cmp.Ordering.TheVariants.{Less}
 use Rattle.std.specs.Global.{Vec}
 use Rattle.bson.specs.Tree.{Pairs}
 use Rattle.value_order.specs.KeyText.{tree_text}
-use Rattle.btree.specs.Keys.{Rises, key_cmp}
+use Rattle.tree_model.specs.Keys.{Rises, key_cmp}
 use Rattle.filter.specs.Condition.{Conditions}
 use Rattle.sort.specs.Sort.{SortField, order}
 use Rattle.projection.specs.Projection.{Projection, project}

@@ -20,7 +20,7 @@ use crate::dense::fold_dense;
 use crate::id_range::{IdSpan, span_asked};
 use crate::within::{document_of, is_within};
 use bson::{NoMemory, RawDoc, SpelledDocument};
-use btree::{Bounds, is_within as is_below};
+use btree::Bounds;
 use collections::{Collections, DocumentFold};
 use entries::Catalogued;
 use filter::Filter;
@@ -31,6 +31,7 @@ use projection::Projection;
 use replies::{BatchKind, OpenBatch};
 use std::alloc::Global;
 use stored_documents::id_text;
+use tree_model::is_within as is_below;
 
 /// A walk through the documents of a collection in ascending order of `_id`: which of them it gives, and from
 /// which key text it goes on.

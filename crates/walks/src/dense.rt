@@ -11,11 +11,12 @@ ghost use Rattle.walks.specs.Dense.{StaysDense};
 
 use crate::id_range::IdSpan;
 use bson::{NoMemory, RawDoc};
-use btree::{Bounds, is_within as is_below};
+use btree::Bounds;
 use collections::{Collections, DocumentFold};
 use page::Disk;
 use path::Refusal;
 use std::alloc::Global;
+use tree_model::is_within as is_below;
 use value_order::group_text;
 
 /// Fewer `_id`s than this are looked up one by one.

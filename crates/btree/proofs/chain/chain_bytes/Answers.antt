@@ -1,7 +1,7 @@
 use Rattle.std.proofs.Common.{vec_len, rules, ◌≡◌, ◌∙◌, sym, ap, subst, arith, length, ◌-◌, ◌++◌}
 use Rattle.page.specs.Format.{PageModel}
-use Rattle.btree.specs.View.{content_in}
-use Rattle.btree.proofs.StoreLemmas.{answer_failed, cause_later, grows_same, grows_trans, same_trans}
+use Rattle.tree_model.specs.View.{content_in}
+use Rattle.tree_model.proofs.StoreLemmas.{answer_failed, cause_later, grows_same, grows_trans, same_trans}
 use Rattle.btree.proofs.ChainLemmas.{IsRead, next_page, part_long, read_on, ends}
 use Rattle.btree.proofs.chain.chain_bytes.Goals as goal
 

@@ -1,6 +1,6 @@
 use Rattle.std.proofs.Common.{◌≡◌, ℕ, List, length}
-use Rattle.btree.specs.Store.{Grows, IsSame, KeepsWord}
-use Rattle.btree.specs.Tree.{HasLinks, next_of}
+use Rattle.tree_model.specs.Store.{Grows, IsSame, KeepsWord}
+use Rattle.tree_model.specs.Tree.{HasLinks, next_of}
 use Rattle.btree.proofs.ChainLemmas.{IsRead}
 use Rattle.btree.proofs.chain.chain_bytes.Given as goal
 

@@ -1,7 +1,7 @@
 use Rattle.std.proofs.Common.{◌∙◌, sym, ap, arith, length, refl}
 use Rattle.page.specs.Format.{PageModel}
-use Rattle.btree.specs.View.{content_in}
-use Rattle.btree.proofs.StoreLemmas.{answer_failed, cause_later, grows_failed, grows_itself, grows_retired, grows_same, grows_trans}
+use Rattle.tree_model.specs.View.{content_in}
+use Rattle.tree_model.proofs.StoreLemmas.{answer_failed, cause_later, grows_failed, grows_itself, grows_retired, grows_same, grows_trans}
 use Rattle.btree.proofs.ChainLemmas.{next_retired, retiring, retired_on, not_chain, other_kind}
 use Rattle.btree.proofs.chain.retire_chain.Goals as goal
 

@@ -1,6 +1,6 @@
 use Rattle.std.proofs.Common.{◌≡◌, ℕ, List, length}
-use Rattle.btree.specs.Store.{Grows, KeepsWord}
-use Rattle.btree.specs.Tree.{HasLinks, next_of}
+use Rattle.tree_model.specs.Store.{Grows, KeepsWord}
+use Rattle.tree_model.specs.Tree.{HasLinks, next_of}
 use Rattle.btree.proofs.ChainLemmas.{IsRetiring}
 use Rattle.btree.proofs.chain.retire_chain.Given as goal
 

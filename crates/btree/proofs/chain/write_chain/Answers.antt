@@ -2,7 +2,7 @@ use Rattle.std.proofs.Common.{◌*◌, ◌-◌, arith, drop}
 use Rattle.std.proofs.lemmas.List.{length-drop}
 use Rattle.btree.specs.Few.{chain_pages}
 use Rattle.btree.proofs.FewLemmas.{chain_few, same_few}
-use Rattle.btree.proofs.StoreLemmas.{grows_made, grows_trans, grows_failed, grows_itself}
+use Rattle.tree_model.proofs.StoreLemmas.{grows_made, grows_trans, grows_failed, grows_itself}
 use Rattle.btree.proofs.ChainLemmas.{chained_on, drop_on, first_of, some_left}
 use Rattle.btree.proofs.chain.write_chain.Goals as goal
 

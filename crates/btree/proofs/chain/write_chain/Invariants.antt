@@ -1,6 +1,6 @@
 use Rattle.std.proofs.Common.{◌*◌, ◌+◌, ◌<◌, length, drop}
-use Rattle.btree.specs.Store.{Grows, KeepsWord}
-use Rattle.btree.specs.Calls.{IsChained}
+use Rattle.tree_model.specs.Store.{Grows, KeepsWord}
+use Rattle.tree_model.specs.Calls.{IsChained}
 use Rattle.btree.proofs.chain.write_chain.Given as goal
 
 abbrev pub invariant-loop-left : goal.invariant-loop-left

@@ -1,16 +1,16 @@
 use Rattle.std.proofs.Common.{◌-◌, ◌*◌, ◌≤◌, length, ◌≡◌, ◌∙◌, ◌++◌, ◌∷◌, ◌+◌, [], Some, map, sym, ap, subst, arith, refl, inl, inr, suc}
 use Rattle.btree.specs.Loose.{pivot_slot, under_key}
 use Rattle.btree.specs.LooseView.{slot_in}
-use Rattle.btree.specs.EditView.{edit_in}
-use Rattle.btree.specs.View.{content_in}
+use Rattle.tree_model.specs.EditView.{edit_in}
+use Rattle.tree_model.specs.View.{content_in}
 use Rattle.btree.specs.Few.{IsFewOrOne, MakesUpTo, edit_pages}
-use Rattle.btree.specs.Keys.{change, sum_of, times}
-use Rattle.btree.specs.Store.{Store}
-use Rattle.btree.specs.Tree.{Shows, IsSound, entries_of, pages_of}
+use Rattle.tree_model.specs.Keys.{change, sum_of, times}
+use Rattle.tree_model.specs.Store.{Store}
+use Rattle.tree_model.specs.Tree.{Shows, IsSound, entries_of, pages_of}
 use Rattle.page.specs.Content.{Pivot}
 use Rattle.page.specs.Format.{PageModel}
 use Rattle.btree.specs.Turn.{model_in, IsHeld}
-use Rattle.btree.proofs.StoreLemmas.{answer_failed, cause_later, frame_same, frame_trans, grows_failed, grows_retired, grows_same, grows_trans, shows_kept}
+use Rattle.tree_model.proofs.StoreLemmas.{answer_failed, cause_later, frame_same, frame_trans, grows_failed, grows_retired, grows_same, grows_trans, shows_kept}
 use Rattle.btree.proofs.HeldLemmas.{IsTurn, branch_slots, held_later, opened, turns_failed}
 use Rattle.btree.proofs.ChangingLemmas.{at_leaf, begins, behind_later, branch_deep, turned_on}
 use Rattle.btree.specs.Change.{IsBehind}
@@ -19,7 +19,7 @@ use Rattle.btree.proofs.FewParts.{branch_few}
 use Rattle.btree.proofs.FewLemmas.{all_mine, branch_two, children_few, few_alone, few_made, few_on, few_or_one_on, stopped, sum_both, loose_slot_little}
 use Rattle.btree.proofs.FewLemmas.{zero_or}
 use Rattle.btree.proofs.SplitLemmas.{two_parts}
-use Rattle.btree.proofs.ListLemmas.{long_append, long_map}
+use Rattle.tree_model.proofs.ListLemmas.{long_append, long_map}
 use Rattle.btree.proofs.OneChildLemmas.{amid, amid_turned, key_little, prepared_child}
 use Rattle.btree.proofs.PrepareLemmas.{begins_there, children_done, prepare}
 use Rattle.btree.proofs.changing.+change.Goals as goal

@@ -1,8 +1,8 @@
 use Rattle.std.proofs.Common.{◌∙◌, ap, arith, length, sym, refl, subst, map}
 use Rattle.page.specs.Content.{IsItem}
-use Rattle.btree.specs.Keys.{Each}
+use Rattle.tree_model.specs.Keys.{Each}
 use Rattle.btree.specs.Loose.{item_slot}
-use Rattle.btree.specs.View.{item_in}
+use Rattle.tree_model.specs.View.{item_in}
 use Rattle.btree.proofs.FewLemmas.{cells_few, stopped}
 use Rattle.btree.proofs.ChangingLemmas.{each_of_all, leaf_changed}
 use Rattle.btree.proofs.changing.change_cells.Goals as goal

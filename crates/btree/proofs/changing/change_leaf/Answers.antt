@@ -1,10 +1,10 @@
 use Rattle.std.proofs.Common.{◌+◌, arith, map}
-use Rattle.btree.specs.EditView.{edit_in}
+use Rattle.tree_model.specs.EditView.{edit_in}
 use Rattle.btree.specs.Few.{MakesUpTo, edit_pages}
-use Rattle.btree.specs.Keys.{sum_of}
+use Rattle.tree_model.specs.Keys.{sum_of}
 use Rattle.btree.proofs.FewLemmas.{few_alone, few_or_one_on, stopped}
 use Rattle.btree.proofs.InPageLemmas.{edited_turns}
-use Rattle.btree.proofs.StoreLemmas.{grows_trans}
+use Rattle.tree_model.proofs.StoreLemmas.{grows_trans}
 use Rattle.btree.proofs.changing.change_leaf.Goals as goal
 
 pub returns-clause-grows : goal.returns-clause-grows

@@ -1,5 +1,5 @@
 use Rattle.std.proofs.Common.{◌+◌, ◌<◌, map, get_or, length}
-use Rattle.btree.specs.Keys.{IsUnder}
+use Rattle.tree_model.specs.Keys.{IsUnder}
 use Rattle.btree.specs.Loose.{Slot}
 use Rattle.btree.specs.LooseView.{slot_in}
 use Rattle.btree.proofs.changing.child_place.Given as goal

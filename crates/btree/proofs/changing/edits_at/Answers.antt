@@ -1,6 +1,6 @@
 use Rattle.std.proofs.Common.{◌∙◌, sym, ap, subst, map}
-use Rattle.btree.specs.EditView.{edit_in}
-use Rattle.btree.specs.Keys.{Each, Edit, IsUnder}
+use Rattle.tree_model.specs.EditView.{edit_in}
+use Rattle.tree_model.specs.Keys.{Each, Edit, IsUnder}
 use Rattle.btree.proofs.LooseLemmas.{map_take}
 use Rattle.btree.proofs.PrepareLemmas.{before_under}
 use Rattle.btree.proofs.changing.edits_at.Goals as goal

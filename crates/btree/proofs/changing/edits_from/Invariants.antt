@@ -1,6 +1,6 @@
 use Rattle.std.proofs.Common.{◌≤◌, map, drop, length}
-use Rattle.btree.specs.Keys.{Each, IsNotUnder}
-use Rattle.btree.specs.EditView.{edit_in}
+use Rattle.tree_model.specs.Keys.{Each, IsNotUnder}
+use Rattle.tree_model.specs.EditView.{edit_in}
 use Rattle.btree.proofs.changing.edits_from.Given as goal
 
 abbrev pub invariant-loop-from : goal.invariant-loop-from

@@ -1,6 +1,6 @@
 use Rattle.std.proofs.Common.{◌∙◌, ◌++◌, ◌∷◌, ◌+◌, [], ap, sym, map, take, drop}
 use Rattle.btree.specs.LooseView.{slot_in}
-use Rattle.btree.proofs.ListLemmas.{map_append}
+use Rattle.tree_model.proofs.ListLemmas.{map_append}
 use Rattle.btree.proofs.LooseLemmas.{take_drop}
 use Rattle.btree.proofs.changing.part_at.Goals as goal
 

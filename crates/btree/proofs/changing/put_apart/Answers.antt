@@ -8,7 +8,7 @@ use Rattle.btree.proofs.AroundFew.{are_beside, near_failed, near_few}
 use Rattle.btree.proofs.AroundLemmas.{near_done, near_stopped}
 use Rattle.btree.proofs.FewLemmas.{few_made, few_small, stopped}
 use Rattle.btree.proofs.HeldLemmas.{turns_failed}
-use Rattle.btree.proofs.StoreLemmas.{grows_trans}
+use Rattle.tree_model.proofs.StoreLemmas.{grows_trans}
 use Rattle.btree.proofs.changing.put_apart.Goals as goal
 
 pub returns-clause-grows : goal.returns-clause-grows

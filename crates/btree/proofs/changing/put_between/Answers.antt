@@ -1,7 +1,7 @@
 use Rattle.std.proofs.Common.{◌≡◌, ◌∙◌, ◌+◌, ◌-◌, ℕ, Some, ap, arith, drop, length, map, min, subst, refl, sym, take}
 use Rattle.btree.specs.Change.{IsBehind}
 use Rattle.btree.specs.Few.{MakesUpTo}
-use Rattle.btree.specs.Keys.{Each}
+use Rattle.tree_model.specs.Keys.{Each}
 use Rattle.btree.specs.Loose.{IsSlot, pivot_slot, slots_size, under_key}
 use Rattle.btree.specs.LooseView.{slot_in}
 use Rattle.btree.specs.OneChild.{IsAround, slots_between}

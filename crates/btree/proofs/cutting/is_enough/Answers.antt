@@ -3,7 +3,7 @@ use Rattle.page.specs.Content.{inline}
 use Rattle.btree.specs.Loose.{Slot, value}
 use Rattle.btree.specs.LooseView.{slot_in}
 use Rattle.btree.proofs.CuttingLemmas.{even_part, little_behind}
-use Rattle.btree.proofs.ListLemmas.{long_map}
+use Rattle.tree_model.proofs.ListLemmas.{long_map}
 use Rattle.btree.proofs.cutting.is_enough.Goals as goal
 
 none : Slot

@@ -2,7 +2,7 @@ use Rattle.std.proofs.Common.{[], ap, sym, subst, ◌+◌, ◌-◌, ◌<◌, ◌
 use Rattle.page.specs.Content.{inline}
 use Rattle.btree.specs.Loose.{IsPart, Slot, value, slot_size, slots_size}
 use Rattle.btree.specs.LooseView.{slot_in}
-use Rattle.btree.proofs.ListLemmas.{long_map}
+use Rattle.tree_model.proofs.ListLemmas.{long_map}
 use Rattle.btree.proofs.CuttingLemmas.{each_at, behind_is, behind_long, none_fits, size_next, take_over, part_front, part_half}
 use Rattle.btree.proofs.FewParts.{full_half, full_whole}
 use Rattle.btree.proofs.cutting.part_len.Goals as goal

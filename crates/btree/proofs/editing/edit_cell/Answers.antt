@@ -1,10 +1,10 @@
 use Rattle.std.proofs.Common.{◌∷◌, [], ap, arith, sym, subst, map}
 use Rattle.std.specs.Option.{option_map}
-use Rattle.btree.specs.EditView.{edit_in}
-use Rattle.btree.specs.Calls.{IsEdited}
+use Rattle.tree_model.specs.EditView.{edit_in}
+use Rattle.tree_model.specs.Calls.{IsEdited}
 use Rattle.btree.specs.Few.{chain_pages, put_pages}
-use Rattle.btree.specs.View.{item_in}
-use Rattle.btree.proofs.StoreLemmas.{grows_trans}
+use Rattle.tree_model.specs.View.{item_in}
+use Rattle.tree_model.proofs.StoreLemmas.{grows_trans}
 use Rattle.btree.proofs.FewLemmas.{costs_on, grown_on}
 use Rattle.btree.proofs.EditLemmas.{edits_done, removed_key}
 use Rattle.btree.proofs.editing.edit_cell.Goals as goal

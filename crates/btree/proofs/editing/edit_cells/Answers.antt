@@ -1,9 +1,9 @@
 use Rattle.std.proofs.Common.{arith, map, subst, sym}
-use Rattle.btree.specs.View.{item_in}
-use Rattle.btree.specs.Calls.{IsEdited}
+use Rattle.tree_model.specs.View.{item_in}
+use Rattle.tree_model.specs.Calls.{IsEdited}
 use Rattle.btree.proofs.EditLemmas.{edited_on, edits_more}
 use Rattle.btree.proofs.FewLemmas.{edits_failed, edits_few}
-use Rattle.btree.proofs.StoreLemmas.{answer_failed, cause_later, grows_trans}
+use Rattle.tree_model.proofs.StoreLemmas.{answer_failed, cause_later, grows_trans}
 use Rattle.btree.proofs.editing.edit_cells.Goals as goal
 
 pub returns-in_err-edit_cell-clause-grows : goal.returns-in_err-edit_cell-clause-grows

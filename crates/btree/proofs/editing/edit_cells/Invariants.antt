@@ -1,12 +1,12 @@
 use Rattle.std.proofs.Common.{◌≡◌, ◌≤◌, ◌+◌, ◌*◌, zero, List, map, take}
-use Rattle.btree.specs.Keys.{Each, Pair, Rises, sum_of}
+use Rattle.tree_model.specs.Keys.{Each, Pair, Rises, sum_of}
 use Rattle.page.specs.Content.{IsItem, item_size, total}
-use Rattle.btree.specs.Store.{Grows, KeepsWord}
-use Rattle.btree.specs.Tree.{Shows, item_of, pair_keys}
+use Rattle.tree_model.specs.Store.{Grows, KeepsWord}
+use Rattle.tree_model.specs.Tree.{Shows, item_of, pair_keys}
 use Rattle.btree.specs.Few.{MakesUpTo, edit_pages}
-use Rattle.btree.specs.View.{item_in}
-use Rattle.btree.specs.EditView.{edit_in}
-use Rattle.btree.specs.Calls.{IsEdited}
+use Rattle.tree_model.specs.View.{item_in}
+use Rattle.tree_model.specs.EditView.{edit_in}
+use Rattle.tree_model.specs.Calls.{IsEdited}
 use Rattle.btree.proofs.editing.edit_cells.Given as goal
 
 abbrev pub invariant-loop-edit : goal.invariant-loop-edit

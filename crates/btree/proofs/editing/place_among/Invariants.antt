@@ -1,7 +1,7 @@
 use Rattle.std.proofs.Common.{◌≡◌, ℕ, ◌+◌, ◌-◌, ◌<◌, ◌≤◌, length, map, get_or}
 use Rattle.page.specs.Content.{Item}
-use Rattle.btree.specs.Keys.{IsUnder, IsNotUnder}
-use Rattle.btree.specs.View.{item_in}
+use Rattle.tree_model.specs.Keys.{IsUnder, IsNotUnder}
+use Rattle.tree_model.specs.View.{item_in}
 use Rattle.btree.proofs.editing.place_among.Given as goal
 
 abbrev pub invariant-loop-low : goal.invariant-loop-low

@@ -1,8 +1,8 @@
 use Rattle.std.proofs.Common.{◌+◌, ◌≤◌, arith, sym, subst, map}
 use Rattle.page.specs.declared.cells.Cell.{Cell}
-use Rattle.btree.specs.Calls.{IsPutIn}
-use Rattle.btree.specs.View.{item_in}
-use Rattle.btree.specs.Keys.{Each}
+use Rattle.tree_model.specs.Calls.{IsPutIn}
+use Rattle.tree_model.specs.View.{item_in}
+use Rattle.tree_model.specs.Keys.{Each}
 use Rattle.page.specs.Content.{IsItem, item_size, total}
 use Rattle.btree.proofs.FewLemmas.{inserted_size}
 use Rattle.btree.proofs.EditLemmas.{each_inserted, item_small, put_in}

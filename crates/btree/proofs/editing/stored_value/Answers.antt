@@ -1,5 +1,5 @@
 use Rattle.std.proofs.Common.{refl, arith, subst, sym}
-use Rattle.btree.specs.Calls.{IsStored}
+use Rattle.tree_model.specs.Calls.{IsStored}
 use Rattle.btree.proofs.EditLemmas.{chained}
 use Rattle.btree.proofs.editing.stored_value.Goals as goal
 

@@ -1,10 +1,10 @@
 use Rattle.std.proofs.Common.{◌≡◌, ◌≤◌, ◌∙◌, sym, ap, subst, arith, length, map, rules, vec_len}
 use Rattle.std.specs.Ordering.{is_eq}
-use Rattle.btree.specs.Calls.{IsTakenOut}
-use Rattle.btree.specs.View.{item_in}
-use Rattle.btree.specs.Keys.{Each}
+use Rattle.tree_model.specs.Calls.{IsTakenOut}
+use Rattle.tree_model.specs.View.{item_in}
+use Rattle.tree_model.specs.Keys.{Each}
 use Rattle.page.specs.Content.{IsItem, item_size, total}
-use Rattle.btree.specs.Search.{IsPlace}
+use Rattle.tree_model.specs.Search.{IsPlace}
 use Rattle.btree.proofs.FewLemmas.{removed_size}
 use Rattle.btree.proofs.EditLemmas.{each_removed, taken_past, taken_other, taken_here, taken_failed}
 use Rattle.btree.proofs.editing.take_out.Goals as goal

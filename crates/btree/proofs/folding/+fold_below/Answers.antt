@@ -2,13 +2,13 @@ use Rattle.std.proofs.Common.{◌≡◌, ◌∙◌, ◌++◌, suc, ap, refl, sym
 use Rattle.std.specs.Option.{option_map}
 use Rattle.page.specs.Content.{Pivot}
 use Rattle.page.specs.Format.{PageModel}
-use Rattle.btree.specs.Tree.{Body, pivot_of, entries_of}
-use Rattle.btree.specs.View.{content_in}
-use Rattle.btree.specs.Calls.{IsAnswer}
+use Rattle.tree_model.specs.Tree.{Body, pivot_of, entries_of}
+use Rattle.tree_model.specs.View.{content_in}
+use Rattle.tree_model.specs.Calls.{IsAnswer}
 use Rattle.btree.specs.Fold.{between}
-use Rattle.btree.proofs.StoreLemmas.{answer_failed, frame_same, frame_trans, grows_itself, grows_same, grows_trans, part_kept, same_itself, same_trans}
-use Rattle.btree.proofs.ListLemmas.{long_map}
-use Rattle.btree.proofs.GetLemmas.{not_between, too_deep, bounds_are}
+use Rattle.tree_model.proofs.StoreLemmas.{answer_failed, frame_same, frame_trans, grows_itself, grows_same, grows_trans, part_kept, same_itself, same_trans}
+use Rattle.tree_model.proofs.ListLemmas.{long_map}
+use Rattle.tree_model.proofs.GetLemmas.{not_between, too_deep, bounds_are}
 use Rattle.btree.proofs.ScanLemmas.{at_branch, scan_leaf_below, none_before, child_here, child_on, child_past, child_rest, scan_failed, take_all}
 use Rattle.btree.proofs.folding.+fold_below.Goals as goal
 

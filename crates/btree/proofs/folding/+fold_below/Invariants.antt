@@ -1,9 +1,9 @@
 use Rattle.std.proofs.Common.{◌≡◌, ◌-◌, ◌++◌, ℕ, suc, List, map, take}
 use Rattle.std.specs.Option.{option_map}
-use Rattle.btree.specs.Keys.{Entry}
-use Rattle.btree.specs.Store.{Grows, IsSame, KeepsWord}
-use Rattle.btree.specs.Tree.{Body, pivot_of, entries_of}
-use Rattle.btree.specs.Calls.{IsPart}
+use Rattle.tree_model.specs.Keys.{Entry}
+use Rattle.tree_model.specs.Store.{Grows, IsSame, KeepsWord}
+use Rattle.tree_model.specs.Tree.{Body, pivot_of, entries_of}
+use Rattle.tree_model.specs.Calls.{IsPart}
 use Rattle.btree.specs.Fold.{HasTaken, between}
 use Rattle.btree.proofs.folding.+fold_below.Given as goal
 

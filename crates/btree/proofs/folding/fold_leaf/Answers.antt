@@ -1,11 +1,11 @@
 use Rattle.std.proofs.Common.{◌∙◌, ◌++◌, zero, ap, refl, sym, subst, arith, append-nil, length, map}
 use Rattle.std.specs.Option.{option_map}
 use Rattle.page.specs.Content.{Item}
-use Rattle.btree.specs.Keys.{Pair, IsWithin, entry_of}
-use Rattle.btree.specs.Tree.{item_of}
+use Rattle.tree_model.specs.Keys.{Pair, IsWithin, entry_of}
+use Rattle.tree_model.specs.Tree.{item_of}
 use Rattle.btree.specs.Fold.{between}
-use Rattle.btree.proofs.ListLemmas.{long_map}
-use Rattle.btree.proofs.StoreLemmas.{grows_itself, grows_trans, same_itself, same_trans, shows_kept}
+use Rattle.tree_model.proofs.ListLemmas.{long_map}
+use Rattle.tree_model.proofs.StoreLemmas.{grows_itself, grows_trans, same_itself, same_trans, shows_kept}
 use Rattle.btree.proofs.ScanLemmas.{all_taken, before_end, first_none, here, goes_on, rest_behind, scan_failed}
 use Rattle.btree.proofs.folding.fold_leaf.Goals as goal
 

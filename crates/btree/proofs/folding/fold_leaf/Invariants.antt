@@ -1,7 +1,7 @@
 use Rattle.std.proofs.Common.{◌≡◌, ◌++◌, zero, List, map, take}
-use Rattle.btree.specs.Keys.{Pair, Entry, Rises, entry_of}
-use Rattle.btree.specs.Store.{Grows, IsSame, KeepsWord}
-use Rattle.btree.specs.Tree.{Shows, item_of, pair_keys}
+use Rattle.tree_model.specs.Keys.{Pair, Entry, Rises, entry_of}
+use Rattle.tree_model.specs.Store.{Grows, IsSame, KeepsWord}
+use Rattle.tree_model.specs.Tree.{Shows, item_of, pair_keys}
 use Rattle.btree.specs.Fold.{HasTaken, between}
 use Rattle.btree.proofs.folding.fold_leaf.Given as goal
 

@@ -1,8 +1,8 @@
 use Rattle.std.proofs.Common.{◌∙◌, ◌++◌, ◌∷◌, [], ap, subst, sym}
 use Rattle.page.specs.Content.{Item}
-use Rattle.btree.specs.Calls.{IsAnswer}
+use Rattle.tree_model.specs.Calls.{IsAnswer}
 use Rattle.btree.specs.Fold.{entry_at}
-use Rattle.btree.specs.View.{place_in}
+use Rattle.tree_model.specs.View.{place_in}
 use Rattle.btree.proofs.ChainLemmas.{spilled_is}
 use Rattle.btree.proofs.folding.lend.Goals as goal
 

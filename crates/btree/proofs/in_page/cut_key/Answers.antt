@@ -1,9 +1,9 @@
 use Rattle.std.proofs.Common.{◌∙◌, ap, arith, length, subst, sym}
 use Rattle.std.specs.Ordering.{is_eq}
 use Rattle.page.specs.Content.{IsLeaf, item_size, total}
-use Rattle.btree.specs.Calls.{IsTakenOut}
-use Rattle.btree.specs.Search.{IsGap}
-use Rattle.btree.specs.View.{item_in}
+use Rattle.tree_model.specs.Calls.{IsTakenOut}
+use Rattle.tree_model.specs.Search.{IsGap}
+use Rattle.tree_model.specs.View.{item_in}
 use Rattle.btree.proofs.EditLemmas.{failed_taken, here_taken, other_taken, past_taken}
 use Rattle.btree.proofs.InPageLemmas.{gap_here, gap_other, gap_past, left_leaf, left_long, left_total}
 use Rattle.btree.proofs.in_page.cut_key.Goals as goal

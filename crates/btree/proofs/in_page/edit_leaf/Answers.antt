@@ -2,10 +2,10 @@ use Rattle.std.proofs.Common.{◌∷◌, [], ap, arith, length, subst, sym}
 use Rattle.std.specs.Option.{option_map, unwrap_or}
 use Rattle.std.proofs.lemmas.Result.{IfOk-weaker}
 use Rattle.page.specs.Content.{IsLeaf}
-use Rattle.btree.specs.EditView.{edit_in}
-use Rattle.btree.specs.Calls.{IsEdited, IsTakenOut}
-use Rattle.btree.specs.Search.{IsGap}
-use Rattle.btree.proofs.StoreLemmas.{grows_trans}
+use Rattle.tree_model.specs.EditView.{edit_in}
+use Rattle.tree_model.specs.Calls.{IsEdited, IsTakenOut}
+use Rattle.tree_model.specs.Search.{IsGap}
+use Rattle.tree_model.proofs.StoreLemmas.{grows_trans}
 use Rattle.btree.proofs.EditLemmas.{removed_key}
 use Rattle.btree.proofs.InPageLemmas.{leaf_edited}
 use Rattle.btree.proofs.in_page.edit_leaf.Goals as goal

@@ -2,13 +2,13 @@ use Rattle.std.proofs.Common.{◌∙◌, ap, arith, length, map, subst, sym}
 use Rattle.std.specs.Option.{unwrap_or}
 use Rattle.std.proofs.lemmas.List.{take_all}
 use Rattle.page.specs.Content.{item_size, total}
-use Rattle.btree.specs.Calls.{IsEdited}
-use Rattle.btree.specs.EditView.{edit_in}
+use Rattle.tree_model.specs.Calls.{IsEdited}
+use Rattle.tree_model.specs.EditView.{edit_in}
 use Rattle.btree.proofs.EditLemmas.{edited_on, edits_more}
 use Rattle.btree.proofs.FewLemmas.{edits_failed, edits_few}
 use Rattle.btree.proofs.InPageLemmas.{room_after, room_next}
-use Rattle.btree.proofs.ListLemmas.{long_map}
-use Rattle.btree.proofs.StoreLemmas.{answer_failed, cause_later, grows_trans}
+use Rattle.tree_model.proofs.ListLemmas.{long_map}
+use Rattle.tree_model.proofs.StoreLemmas.{answer_failed, cause_later, grows_trans}
 use Rattle.btree.proofs.in_page.edit_page.Goals as goal
 
 pub edit_leaf-requires-clause-two : goal.edit_leaf-requires-clause-two

@@ -1,12 +1,12 @@
 use Rattle.std.proofs.Common.{◌≡◌, ◌≤◌, ◌+◌, zero, List, length, map, take}
 use Rattle.std.specs.Option.{unwrap_or}
 use Rattle.page.specs.Content.{item_size, total}
-use Rattle.btree.specs.Calls.{IsEdited}
-use Rattle.btree.specs.EditView.{edit_in}
+use Rattle.tree_model.specs.Calls.{IsEdited}
+use Rattle.tree_model.specs.EditView.{edit_in}
 use Rattle.btree.specs.Few.{MakesUpTo, edit_pages, edit_room}
-use Rattle.btree.specs.Keys.{Pair, Rises, sum_of}
-use Rattle.btree.specs.Store.{Grows, KeepsWord}
-use Rattle.btree.specs.Tree.{Shows, item_of, pair_keys}
+use Rattle.tree_model.specs.Keys.{Pair, Rises, sum_of}
+use Rattle.tree_model.specs.Store.{Grows, KeepsWord}
+use Rattle.tree_model.specs.Tree.{Shows, item_of, pair_keys}
 use Rattle.btree.proofs.in_page.edit_page.Given as goal
 
 abbrev pub invariant-loop-edit : goal.invariant-loop-edit

@@ -1,11 +1,11 @@
 use Rattle.std.proofs.Common.{ap, arith, map}
 use Rattle.std.proofs.lemmas.List.{take_all}
 use Rattle.page.specs.Content.{item_size, total}
-use Rattle.btree.specs.EditView.{edit_in}
+use Rattle.tree_model.specs.EditView.{edit_in}
 use Rattle.btree.specs.Few.{edit_room}
-use Rattle.btree.specs.Keys.{sum_of}
+use Rattle.tree_model.specs.Keys.{sum_of}
 use Rattle.btree.proofs.InPageLemmas.{used_more}
-use Rattle.btree.proofs.ListLemmas.{long_map}
+use Rattle.tree_model.proofs.ListLemmas.{long_map}
 use Rattle.btree.proofs.in_page.has_room.Goals as goal
 
 pub loop-edit-init : goal.loop-edit-init

@@ -1,8 +1,8 @@
 use Rattle.std.proofs.Common.{◌≡◌, ◌+◌, ◌≤◌, map, take}
 use Rattle.page.specs.Content.{item_size, total}
-use Rattle.btree.specs.EditView.{edit_in}
+use Rattle.tree_model.specs.EditView.{edit_in}
 use Rattle.btree.specs.Few.{edit_room}
-use Rattle.btree.specs.Keys.{sum_of}
+use Rattle.tree_model.specs.Keys.{sum_of}
 use Rattle.btree.proofs.in_page.has_room.Given as goal
 
 abbrev pub invariant-loop-edit : goal.invariant-loop-edit

@@ -1,7 +1,7 @@
 use Rattle.std.proofs.Common.{ap, arith}
 use Rattle.page.specs.declared.cells.Cell.{Cell}
 use Rattle.page.specs.Content.{item_size, total}
-use Rattle.btree.specs.View.{item_in}
+use Rattle.tree_model.specs.View.{item_in}
 use Rattle.btree.proofs.EditLemmas.{item_small}
 use Rattle.btree.proofs.InPageLemmas.{put_leaf, put_total}
 use Rattle.btree.proofs.in_page.put_cell.Goals as goal

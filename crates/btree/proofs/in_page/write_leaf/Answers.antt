@@ -6,7 +6,7 @@ use Rattle.btree.proofs.EditLemmas.{not_edited}
 use Rattle.btree.proofs.FewParts.{leaf_few}
 use Rattle.btree.proofs.FewLemmas.{stopped}
 use Rattle.btree.proofs.InPageLemmas.{leaf_written, none, one_few}
-use Rattle.btree.proofs.StoreLemmas.{grows_failed, grows_itself, grows_made}
+use Rattle.tree_model.proofs.StoreLemmas.{grows_failed, grows_itself, grows_made}
 use Rattle.btree.proofs.in_page.write_leaf.Goals as goal
 
 pub returns-then-len-lt2-clause-few : goal.returns-then-len-lt2-clause-few

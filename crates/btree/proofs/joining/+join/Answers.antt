@@ -2,8 +2,8 @@ use Rattle.std.proofs.Common.{◌≡◌, ◌<◌, ◌++◌, arith, length, refl,
 use Rattle.btree.specs.Few.{AreNotJoined}
 use Rattle.btree.specs.LooseView.{slot_in}
 use Rattle.btree.specs.Turn.{model_in}
-use Rattle.btree.proofs.ListLemmas.{long_map}
-use Rattle.btree.proofs.StoreLemmas.{cause_later, frame_trans, grows_trans}
+use Rattle.tree_model.proofs.ListLemmas.{long_map}
+use Rattle.tree_model.proofs.StoreLemmas.{cause_later, frame_trans, grows_trans}
 use Rattle.btree.proofs.FewLemmas.{few_before, few_behind, few_concat, few_left_gone, few_level, few_on, few_right_gone, not_joined_none, stopped}
 use Rattle.btree.proofs.HeldLemmas.{concat_turns, glue_held, held_later, turns_failed}
 use Rattle.btree.proofs.JoinLemmas.{joined_alone, joined_before, joined_behind, joined_gone, joined_level, left_gone, none_there, ready_joined}

@@ -1,7 +1,7 @@
 use Rattle.std.proofs.Common.{◌<◌, arith, length, map, rules}
 use Rattle.btree.specs.LooseView.{slot_in}
 use Rattle.btree.proofs.FewParts.{size_many}
-use Rattle.btree.proofs.ListLemmas.{long_map}
+use Rattle.tree_model.proofs.ListLemmas.{long_map}
 use Rattle.btree.proofs.joining.is_full.Goals as goal
 
 pub returns-then-len-lt2-clause-few : goal.returns-then-len-lt2-clause-few

@@ -1,7 +1,7 @@
 use Rattle.std.proofs.Common.{◌≤◌, length, arith}
 use Rattle.btree.specs.LooseView.{slot_in}
 use Rattle.btree.specs.Turn.{model_in}
-use Rattle.btree.proofs.ListLemmas.{long_map}
+use Rattle.tree_model.proofs.ListLemmas.{long_map}
 use Rattle.btree.proofs.ChangingLemmas.{goes_before, two_ready}
 use Rattle.btree.proofs.joining.meet.Goals as goal
 

@@ -1,7 +1,7 @@
 use Rattle.std.proofs.Common.{◌≡◌, ◌<◌, length, arith, subst, rules}
 use Rattle.btree.specs.LooseView.{slot_in}
 use Rattle.btree.specs.Turn.{IsHeld, IsUpTo, model_in}
-use Rattle.btree.proofs.ListLemmas.{long_map}
+use Rattle.tree_model.proofs.ListLemmas.{long_map}
 use Rattle.btree.proofs.ChangingLemmas.{behind_none, behind_some}
 use Rattle.btree.proofs.joining.meet_behind.Goals as goal
 

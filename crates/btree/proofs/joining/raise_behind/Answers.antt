@@ -1,7 +1,7 @@
 use Rattle.std.proofs.Common.{◌++◌, arith, refl}
 use Rattle.btree.specs.Few.{MakesUpTo}
 use Rattle.btree.specs.Turn.{model_in}
-use Rattle.btree.proofs.ListLemmas.{times_append}
+use Rattle.tree_model.proofs.ListLemmas.{times_append}
 use Rattle.btree.proofs.FewLemmas.{few_concat, few_parts, stopped}
 use Rattle.btree.proofs.HeldLemmas.{concat_turns, glue_held, held_later, joined_long, turns_failed}
 use Rattle.btree.proofs.joining.raise_behind.Goals as goal

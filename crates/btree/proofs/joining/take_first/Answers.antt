@@ -1,7 +1,7 @@
 use Rattle.std.proofs.Common.{◌<◌, arith, length, map, refl, rules}
 use Rattle.btree.specs.LooseView.{slot_in}
 use Rattle.btree.specs.Turn.{model_in}
-use Rattle.btree.proofs.ListLemmas.{long_map}
+use Rattle.tree_model.proofs.ListLemmas.{long_map}
 use Rattle.btree.proofs.FewLemmas.{off_first, stopped}
 use Rattle.btree.proofs.EndLemmas.{first_failed, first_is_child, first_off, first_loose_slots, took_first}
 use Rattle.btree.proofs.joining.take_first.Goals as goal

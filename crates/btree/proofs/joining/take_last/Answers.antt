@@ -1,7 +1,7 @@
 use Rattle.std.proofs.Common.{arith, map, refl}
 use Rattle.btree.specs.LooseView.{slot_in}
 use Rattle.btree.specs.Turn.{model_in}
-use Rattle.btree.proofs.ListLemmas.{long_map}
+use Rattle.tree_model.proofs.ListLemmas.{long_map}
 use Rattle.btree.proofs.FewLemmas.{off_last, stopped}
 use Rattle.btree.proofs.EndLemmas.{last_failed, last_is_child, last_off, last_loose_slots, took_last}
 use Rattle.btree.proofs.joining.take_last.Goals as goal

@@ -1,9 +1,9 @@
 use Rattle.std.proofs.Common.{◌≡◌, ◌∙◌, ap, sym, length, inr, rules}
-use Rattle.btree.specs.View.{content_in}
+use Rattle.tree_model.specs.View.{content_in}
 use Rattle.page.specs.Content.{Pivot}
 use Rattle.page.specs.Format.{PageModel}
-use Rattle.btree.proofs.StoreLemmas.{answer_failed, frame_same, grows_same, grows_trans, same_trans}
-use Rattle.btree.proofs.GetLemmas.{not_between, in_leaf, too_deep, in_child, bounds_are}
+use Rattle.tree_model.proofs.StoreLemmas.{answer_failed, frame_same, grows_same, grows_trans, same_trans}
+use Rattle.tree_model.proofs.GetLemmas.{not_between, in_leaf, too_deep, in_child, bounds_are}
 use Rattle.btree.proofs.lookup.+get_below.Goals as goal
 
 pub returns-in_err-shared-clause-looks : goal.returns-in_err-shared-clause-looks

@@ -1,4 +1,4 @@
-use Rattle.btree.proofs.GetLemmas.{root_between, root_part}
+use Rattle.tree_model.proofs.GetLemmas.{root_between, root_part}
 use Rattle.btree.proofs.lookup.get.Goals as goal
 
 pub returns-clause-looks : goal.returns-clause-looks

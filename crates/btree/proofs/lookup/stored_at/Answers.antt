@@ -1,6 +1,6 @@
 use Rattle.std.proofs.Common.{refl, sym, ap, ◌∙◌, arith}
 use Rattle.std.specs.Ordering.{is_eq}
-use Rattle.btree.proofs.GetLemmas.{look_found, look_other, look_past}
+use Rattle.tree_model.proofs.GetLemmas.{look_found, look_other, look_past}
 use Rattle.btree.proofs.lookup.stored_at.Goals as goal
 
 pub returns-then-at-len : goal.returns-then-at-len

@@ -1,5 +1,5 @@
 use Rattle.std.proofs.Common.{Vec, Global, ℕ}
-use Rattle.btree.proofs.GetLemmas.{none_found, some_found, some_failed}
+use Rattle.tree_model.proofs.GetLemmas.{none_found, some_found, some_failed}
 use Rattle.btree.proofs.lookup.value_in_leaf.Goals as goal
 
 pub returns-in_default-clause-looks : goal.returns-in_default-clause-looks

@@ -1,8 +1,8 @@
 use Rattle.std.proofs.Common.{◌∙◌, ◌∷◌, ◌++◌, [], sym, ap, map, take}
 use Rattle.btree.specs.Loose.{item_slot}
 use Rattle.btree.specs.LooseView.{slot_in}
-use Rattle.btree.specs.View.{item_in}
-use Rattle.btree.proofs.ListLemmas.{map_append, map_map, take_more_map}
+use Rattle.tree_model.specs.View.{item_in}
+use Rattle.tree_model.proofs.ListLemmas.{map_append, map_map, take_more_map}
 use Rattle.btree.proofs.node.loose_slots_of_cells.Goals as goal
 
 pub loop-cell-preserved : goal.loop-cell-preserved

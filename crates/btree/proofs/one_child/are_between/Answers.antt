@@ -1,5 +1,5 @@
 use Rattle.std.proofs.Common.{◌≡◌, ◌+◌, ◌-◌, arith, get_or, length, map, subst}
-use Rattle.btree.specs.Keys.{IsUnder}
+use Rattle.tree_model.specs.Keys.{IsUnder}
 use Rattle.btree.specs.LooseView.{slot_in}
 use Rattle.btree.proofs.BetweenLemmas.{within_bound}
 use Rattle.btree.proofs.one_child.are_between.Goals as goal

@@ -1,5 +1,5 @@
 use Rattle.std.proofs.Common.{arith, subst, sym}
-use Rattle.btree.specs.Keys.{IsUnder}
+use Rattle.tree_model.specs.Keys.{IsUnder}
 use Rattle.btree.proofs.OneChildLemmas.{are_at}
 use Rattle.btree.proofs.one_child.child_of_all.Goals as goal
 

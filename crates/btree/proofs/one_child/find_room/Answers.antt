@@ -4,7 +4,7 @@ use Rattle.btree.specs.Loose.{Slot, child, slots_size}
 use Rattle.btree.specs.LooseView.{slot_in}
 use Rattle.btree.proofs.BetweenLemmas.{room_sound}
 use Rattle.btree.proofs.CuttingLemmas.{take_over}
-use Rattle.btree.proofs.ListLemmas.{long_map}
+use Rattle.tree_model.proofs.ListLemmas.{long_map}
 use Rattle.btree.proofs.OneChildLemmas.{nothing}
 use Rattle.btree.proofs.one_child.find_room.Goals as goal
 

@@ -4,10 +4,10 @@ use Rattle.page.specs.Content.{Pivot, IsBranch}
 use Rattle.btree.specs.Loose.{Slot, pivot_slot, under_key}
 use Rattle.btree.specs.LooseView.{slot_in}
 use Rattle.btree.specs.Turn.{IsHeld}
-use Rattle.btree.specs.View.{pivot_in}
+use Rattle.tree_model.specs.View.{pivot_in}
 use Rattle.btree.proofs.AroundLemmas.{pivots_held, around_held, under_exchanged}
 use Rattle.btree.proofs.HeldLemmas.{turns_failed}
-use Rattle.btree.proofs.StoreLemmas.{grows_itself, memory_cause}
+use Rattle.tree_model.proofs.StoreLemmas.{grows_itself, memory_cause}
 use Rattle.btree.proofs.one_child.write_between.Goals as goal
 
 pub with_children-requires-clause-sound : goal.with_children-requires-clause-sound

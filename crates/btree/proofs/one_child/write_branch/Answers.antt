@@ -4,7 +4,7 @@ use Rattle.page.proofs.ChildPageLemmas.{with_branch}
 use Rattle.btree.specs.Loose.{pivot_slot, under_key}
 use Rattle.btree.specs.Turn.{IsHeld}
 use Rattle.btree.proofs.OneChildLemmas.{amid_held}
-use Rattle.btree.proofs.StoreLemmas.{grows_itself}
+use Rattle.tree_model.proofs.StoreLemmas.{grows_itself}
 use Rattle.btree.proofs.one_child.write_branch.Goals as goal
 
 pub returns-clause-turns : goal.returns-clause-turns

@@ -4,7 +4,7 @@ use Rattle.btree.proofs.FewLemmas.{stopped}
 use Rattle.btree.specs.Loose.{pivot_slot}
 use Rattle.btree.specs.LooseView.{slot_in}
 use Rattle.btree.proofs.OneChildLemmas.{branch_written}
-use Rattle.btree.proofs.StoreLemmas.{grows_failed, grows_itself, grows_made}
+use Rattle.tree_model.proofs.StoreLemmas.{grows_failed, grows_itself, grows_made}
 use Rattle.btree.proofs.one_child.write_made.Goals as goal
 
 pub returns-clause-turns : goal.returns-clause-turns

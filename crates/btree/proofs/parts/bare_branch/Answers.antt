@@ -1,7 +1,7 @@
 use Rattle.std.proofs.Common.{sym, subst, arith, map}
 use Rattle.page.specs.Content.{IsBranch}
-use Rattle.btree.specs.View.{pivot_in}
-use Rattle.btree.proofs.ListLemmas.{long_map}
+use Rattle.tree_model.specs.View.{pivot_in}
+use Rattle.tree_model.proofs.ListLemmas.{long_map}
 use Rattle.btree.proofs.PartLemmas.{branch_whole}
 use Rattle.btree.proofs.parts.bare_branch.Goals as goal
 

@@ -1,7 +1,7 @@
 use Rattle.std.proofs.Common.{None, ◌∙◌, sym, ap, subst, map}
 use Rattle.page.specs.Content.{branch}
 use Rattle.btree.specs.Loose.{GoBehind, pivot_slot, bare_pivots}
-use Rattle.btree.specs.View.{pivot_in}
+use Rattle.tree_model.specs.View.{pivot_in}
 use Rattle.btree.proofs.PartLemmas.{same_pivots}
 use Rattle.btree.proofs.parts.branch_of.Goals as goal
 

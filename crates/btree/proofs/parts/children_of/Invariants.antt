@@ -1,7 +1,7 @@
 use Rattle.std.proofs.Common.{◌≡◌, map, take}
 use Rattle.btree.specs.Loose.{pivot_slot}
 use Rattle.btree.specs.LooseView.{slot_in}
-use Rattle.btree.specs.View.{pivot_in}
+use Rattle.tree_model.specs.View.{pivot_in}
 use Rattle.btree.proofs.parts.children_of.Given as goal
 
 abbrev pub invariant-loop-loose_slot : goal.invariant-loop-loose_slot

@@ -2,8 +2,8 @@ use Rattle.std.proofs.Common.{None, ◌∙◌, sym, ap, subst, arith, map, lengt
 use Rattle.page.specs.Content.{IsLeaf, leaf}
 use Rattle.btree.specs.Loose.{GoBehind, item_slot}
 use Rattle.btree.specs.LooseView.{slot_in}
-use Rattle.btree.specs.View.{item_in}
-use Rattle.btree.proofs.ListLemmas.{long_map}
+use Rattle.tree_model.specs.View.{item_in}
+use Rattle.tree_model.proofs.ListLemmas.{long_map}
 use Rattle.btree.proofs.PartLemmas.{leaf_whole, same_items}
 use Rattle.btree.proofs.parts.leaf_of.Goals as goal
 

@@ -2,7 +2,7 @@ use Rattle.std.proofs.Common.{◌∙◌, ap, arith, length}
 use Rattle.btree.specs.Few.{MakesUpTo}
 use Rattle.btree.proofs.FewLemmas.{stopped}
 use Rattle.btree.proofs.FewParts.{one_page}
-use Rattle.btree.proofs.StoreLemmas.{grows_failed, grows_itself, grows_made}
+use Rattle.tree_model.proofs.StoreLemmas.{grows_failed, grows_itself, grows_made}
 use Rattle.btree.proofs.parts.write_part.Goals as goal
 
 pub returns-clause-one : goal.returns-clause-one

@@ -1,7 +1,7 @@
 use Rattle.std.proofs.Common.{◌≡◌, ◌<◌, sym, subst, arith, map, length, rules}
-use Rattle.btree.proofs.ListLemmas.{long_map}
+use Rattle.tree_model.proofs.ListLemmas.{long_map}
 use Rattle.btree.specs.LooseView.{slot_in}
-use Rattle.btree.proofs.StoreLemmas.{grows_itself, grows_trans}
+use Rattle.tree_model.proofs.StoreLemmas.{grows_itself, grows_trans}
 use Rattle.btree.specs.Loose.{slots_size}
 use Rattle.btree.proofs.FewLemmas.{stopped}
 use Rattle.btree.proofs.FewParts.{AreFewSoFar, few_done, few_none, few_step, few_stopped, few_stopped_later}

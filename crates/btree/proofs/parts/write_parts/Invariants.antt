@@ -1,9 +1,9 @@
 use Rattle.std.proofs.Common.{◌≡◌, ℕ, ◌+◌, ◌<◌, List, Option, map, length}
-use Rattle.btree.specs.Keys.{Each}
+use Rattle.tree_model.specs.Keys.{Each}
 use Rattle.btree.specs.Loose.{IsEnough, IsSpread, IsSlot, slots_of, slots_size}
 use Rattle.btree.specs.LooseView.{slot_in}
-use Rattle.btree.specs.Store.{Grows, KeepsWord}
-use Rattle.btree.specs.Tree.{Body, Shows}
+use Rattle.tree_model.specs.Store.{Grows, KeepsWord}
+use Rattle.tree_model.specs.Tree.{Body, Shows}
 use Rattle.btree.specs.Turn.{MayFill}
 use Rattle.btree.proofs.FewParts.{AreFewSoFar}
 use Rattle.btree.proofs.RaiseLemmas.{ArePartly}

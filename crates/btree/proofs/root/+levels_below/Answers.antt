@@ -1,9 +1,9 @@
 use Rattle.std.proofs.Common.{◌∙◌, ◌+◌, sym, ap, arith}
 use Rattle.page.specs.Content.{Pivot}
 use Rattle.page.specs.Format.{PageModel}
-use Rattle.btree.specs.View.{content_in}
+use Rattle.tree_model.specs.View.{content_in}
 use Rattle.btree.proofs.RootLemmas.{first_part}
-use Rattle.btree.proofs.StoreLemmas.{answer_failed, cause_later, frame_same, grows_same, grows_trans, part_kept, same_trans}
+use Rattle.tree_model.proofs.StoreLemmas.{answer_failed, cause_later, frame_same, grows_same, grows_trans, part_kept, same_trans}
 use Rattle.btree.proofs.root.+levels_below.Goals as goal
 
 pub returns-in_err-below-clause-levels : goal.returns-in_err-below-clause-levels

@@ -4,10 +4,10 @@ use Rattle.btree.specs.LooseView.{slot_in}
 use Rattle.btree.specs.Turn.{model_in}
 use Rattle.btree.proofs.FewLemmas.{not_alone, raise_failed, root_few}
 use Rattle.btree.proofs.HeldLemmas.{no_slots}
-use Rattle.btree.proofs.ListLemmas.{long_map}
+use Rattle.tree_model.proofs.ListLemmas.{long_map}
 use Rattle.btree.proofs.RaiseLemmas.{head_of}
 use Rattle.btree.proofs.RootLemmas.{change_failed, change_on, changed_head, changed_none, head_of_one, itself, many_slots, ready_top, too_high}
-use Rattle.btree.proofs.StoreLemmas.{grows_trans}
+use Rattle.tree_model.proofs.StoreLemmas.{grows_trans}
 use Rattle.btree.proofs.root.+write_root.Goals as goal
 
 pub returns-then-is_empty-clause-roots : goal.returns-then-is_empty-clause-roots

@@ -1,9 +1,9 @@
 use Rattle.std.proofs.Common.{map}
-use Rattle.btree.specs.EditView.{edit_in}
-use Rattle.btree.specs.Keys.{change}
+use Rattle.tree_model.specs.EditView.{edit_in}
+use Rattle.tree_model.specs.Keys.{change}
 use Rattle.btree.proofs.FewLemmas.{costs_on}
 use Rattle.btree.proofs.RootLemmas.{change_failed, change_on}
-use Rattle.btree.proofs.StoreLemmas.{grows_trans}
+use Rattle.tree_model.proofs.StoreLemmas.{grows_trans}
 use Rattle.btree.proofs.root.change.Goals as goal
 
 pub returns-in_err-top-clause-changes : goal.returns-in_err-top-clause-changes

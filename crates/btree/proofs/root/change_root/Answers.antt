@@ -1,11 +1,11 @@
 use Rattle.std.proofs.Common.{◌+◌, ◌*◌, [], None, ap, length, map, arith, inl, inr}
-use Rattle.btree.specs.EditView.{edit_in}
+use Rattle.tree_model.specs.EditView.{edit_in}
 use Rattle.btree.specs.Few.{MakesUpTo, edit_pages, levels_of}
-use Rattle.btree.specs.Keys.{sum_of}
+use Rattle.tree_model.specs.Keys.{sum_of}
 use Rattle.btree.proofs.FewLemmas.{few_or_one_on, first_few, levels_few, stopped}
-use Rattle.btree.proofs.GetLemmas.{root_part}
+use Rattle.tree_model.proofs.GetLemmas.{root_part}
 use Rattle.btree.proofs.RootLemmas.{all_between, turned_behind}
-use Rattle.btree.proofs.StoreLemmas.{part_kept}
+use Rattle.tree_model.proofs.StoreLemmas.{part_kept}
 use Rattle.btree.proofs.root.change_root.Goals as goal
 
 pub returns-clause-turns : goal.returns-clause-turns

@@ -1,13 +1,13 @@
 use Rattle.std.proofs.Common.{◌≡◌, ◌∙◌, [], None, ap, arith, length, map, refl, rules, subst, sym}
 use Rattle.page.specs.Content.{IsItem}
-use Rattle.btree.specs.Keys.{Each}
-use Rattle.btree.specs.EditView.{edit_in}
+use Rattle.tree_model.specs.Keys.{Each}
+use Rattle.tree_model.specs.EditView.{edit_in}
 use Rattle.btree.specs.Loose.{item_slot}
-use Rattle.btree.specs.View.{item_in}
+use Rattle.tree_model.specs.View.{item_in}
 use Rattle.btree.proofs.ChangingLemmas.{leaf_changed}
 use Rattle.btree.proofs.FewLemmas.{cells_few, stopped}
 use Rattle.btree.proofs.RootLemmas.{all_between}
-use Rattle.btree.proofs.StoreLemmas.{answer_failed}
+use Rattle.tree_model.proofs.StoreLemmas.{answer_failed}
 use Rattle.btree.proofs.root.first_cells.Goals as goal
 
 pub returns-in_err-edit_cells-clause-turns : goal.returns-in_err-edit_cells-clause-turns

@@ -1,6 +1,6 @@
 use Rattle.std.proofs.Common.{[]}
 use Rattle.btree.proofs.ScanLemmas.{filled, filling, fills_none}
-use Rattle.btree.proofs.StoreLemmas.{answer_failed}
+use Rattle.tree_model.proofs.StoreLemmas.{answer_failed}
 use Rattle.btree.proofs.scanning.scan.Goals as goal
 
 pub returns-in_err-fold_entries-clause-scans : goal.returns-in_err-fold_entries-clause-scans

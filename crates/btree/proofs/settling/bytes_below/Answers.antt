@@ -1,4 +1,4 @@
-use Rattle.btree.proofs.StoreLemmas.{failed_so}
+use Rattle.tree_model.proofs.StoreLemmas.{failed_so}
 use Rattle.btree.proofs.settling.bytes_below.Goals as goal
 
 pub returns-in_err-shared-clause-cause : goal.returns-in_err-shared-clause-cause

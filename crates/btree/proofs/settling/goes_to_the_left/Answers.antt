@@ -2,9 +2,9 @@ use Rattle.std.proofs.Common.{◌≡◌, ◌<◌, ◌-◌, Some, arith, length, 
 use Rattle.btree.specs.LooseView.{slot_in}
 use Rattle.btree.specs.Turn.{model_in}
 use Rattle.btree.proofs.ChangingLemmas.{behind_some}
-use Rattle.btree.proofs.ListLemmas.{long_map}
+use Rattle.tree_model.proofs.ListLemmas.{long_map}
 use Rattle.btree.proofs.SettleLemmas.{child_there}
-use Rattle.btree.proofs.StoreLemmas.{answer_failed, cause_later, frame_same, grows_trans, same_trans}
+use Rattle.tree_model.proofs.StoreLemmas.{answer_failed, cause_later, frame_same, grows_trans, same_trans}
 use Rattle.btree.proofs.settling.goes_to_the_left.Goals as goal
 
 pub returns-clause-same : goal.returns-clause-same

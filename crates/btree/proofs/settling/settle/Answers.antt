@@ -5,9 +5,9 @@ use Rattle.btree.proofs.ChangingLemmas.{behind_later}
 use Rattle.btree.proofs.FewLemmas.{few_left_failed, few_left_first, few_right_failed, few_right_first, not_settled_none, stopped}
 use Rattle.btree.proofs.HeldLemmas.{held_later, turns_failed}
 use Rattle.btree.proofs.JoinLemmas.{up_to_trans}
-use Rattle.btree.proofs.ListLemmas.{long_map}
+use Rattle.tree_model.proofs.ListLemmas.{long_map}
 use Rattle.btree.proofs.SettleLemmas.{left_settled, right_settled, same_turned}
-use Rattle.btree.proofs.StoreLemmas.{cause_later, frame_same, frame_trans, grows_trans}
+use Rattle.tree_model.proofs.StoreLemmas.{cause_later, frame_same, frame_trans, grows_trans}
 use Rattle.btree.proofs.settling.settle.Goals as goal
 
 pub returns-in_err-to_the_left-clause-turns : goal.returns-in_err-to_the_left-clause-turns

@@ -1,7 +1,7 @@
 use Rattle.std.proofs.Common.{◌∙◌, ◌∷◌, ◌++◌, [], sym, ap, arith, take}
 use Rattle.page.specs.Content.{Item, inline}
-use Rattle.btree.specs.View.{item_in}
-use Rattle.btree.proofs.ListLemmas.{take_more}
+use Rattle.tree_model.specs.View.{item_in}
+use Rattle.tree_model.proofs.ListLemmas.{take_more}
 use Rattle.btree.proofs.taking_apart.leaf_cells.Goals as goal
 
 none : Item

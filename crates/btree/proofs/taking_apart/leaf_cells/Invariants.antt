@@ -1,5 +1,5 @@
 use Rattle.std.proofs.Common.{◌≡◌, map, take}
-use Rattle.btree.specs.View.{item_in}
+use Rattle.tree_model.specs.View.{item_in}
 use Rattle.btree.proofs.taking_apart.leaf_cells.Given as goal
 
 abbrev pub invariant-loop-i : goal.invariant-loop-i

@@ -1,6 +1,6 @@
 use Rattle.std.proofs.Common.{◌∙◌, sym, ap, map, refl}
 use Rattle.btree.specs.Loose.{pivot_slot, item_slot, under_key}
-use Rattle.btree.specs.View.{content_in}
+use Rattle.tree_model.specs.View.{content_in}
 use Rattle.btree.proofs.HeldLemmas.{branch_slots, leaf_slots, taken}
 use Rattle.btree.proofs.FewParts.{few_of_branch, few_of_leaf}
 use Rattle.btree.proofs.taking_apart.loose_slots_of.Goals as goal

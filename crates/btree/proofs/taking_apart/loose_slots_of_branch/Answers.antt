@@ -3,7 +3,7 @@ use Rattle.btree.specs.Loose.{pivot_slot, under_key}
 use Rattle.btree.specs.LooseView.{slot_in}
 use Rattle.btree.proofs.CuttingLemmas.{take_over}
 use Rattle.btree.proofs.HeldLemmas.{under_long}
-use Rattle.btree.proofs.ListLemmas.{long_map}
+use Rattle.tree_model.proofs.ListLemmas.{long_map}
 use Rattle.btree.proofs.taking_apart.loose_slots_of_branch.Goals as goal
 
 pub returns-clause-ok : goal.returns-clause-ok

@@ -2,7 +2,7 @@ use Rattle.std.proofs.Common.{◌∙◌, ◌∷◌, ◌++◌, [], sym, ap, arith
 use Rattle.page.specs.Content.{Item, inline}
 use Rattle.btree.specs.Loose.{item_slot}
 use Rattle.btree.specs.LooseView.{slot_in}
-use Rattle.btree.proofs.ListLemmas.{take_more_map}
+use Rattle.tree_model.proofs.ListLemmas.{take_more_map}
 use Rattle.btree.proofs.taking_apart.loose_slots_of_leaf.Goals as goal
 
 none : Item

@@ -2,7 +2,7 @@ use Rattle.std.proofs.Common.{◌∙◌, ◌∷◌, sym, ap, arith, length, refl
 use Rattle.page.specs.Format.{PageModel}
 use Rattle.btree.specs.Few.{MakesUpTo}
 use Rattle.btree.proofs.FewLemmas.{stopped}
-use Rattle.btree.proofs.StoreLemmas.{answer_failed, frame_same, frame_trans, grows_failed, grows_retired, grows_same, grows_trans}
+use Rattle.tree_model.proofs.StoreLemmas.{answer_failed, frame_same, frame_trans, grows_failed, grows_retired, grows_same, grows_trans}
 use Rattle.btree.proofs.HeldLemmas.{opened}
 use Rattle.btree.proofs.taking_apart.open_page.Goals as goal
 

@@ -1,5 +1,5 @@
 use Rattle.std.proofs.Common.{◌∙◌, sym, ap, subst, map, refl}
-use Rattle.btree.specs.Keys.{Each}
+use Rattle.tree_model.specs.Keys.{Each}
 use Rattle.btree.specs.Few.{AreFewPages, WritesUpTo}
 use Rattle.btree.specs.Loose.{IsEnough, IsSlot, slots_size}
 use Rattle.btree.specs.LooseView.{slot_in}

@@ -1,7 +1,7 @@
 use Rattle.std.proofs.Common.{◌≡◌, map, sym}
 use Rattle.std.proofs.lemmas.Result.{err_from_is_err_and}
 use Rattle.btree.specs.Scan.{entry_in}
-use Rattle.btree.specs.declared.pages.TreeFault.TheVariants as faults
+use Rattle.tree_model.specs.declared.pages.TreeFault.TheVariants as faults
 use Rattle.collections.proofs.ReadingLemmas.{looks_never, looks_on, looks_refused, no_next, whole_read}
 use Rattle.collections.proofs.lookups.all_below.Goals as goal
 

@@ -1,5 +1,5 @@
 use Rattle.std.proofs.Common.{◌∙◌, ap, sym, List, ℕ}
-use Rattle.btree.specs.Keys.{key_cmp}
+use Rattle.tree_model.specs.Keys.{key_cmp}
 use Rattle.entries.proofs.EditPlaceLemmas.{none_above, less_of}
 use Rattle.entries.proofs.edits.is_above_all.Goals as goal
 

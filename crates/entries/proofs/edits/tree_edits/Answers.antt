@@ -1,6 +1,6 @@
 use Rattle.std.proofs.Common.{List, ◌++◌, map, ap, ◌∙◌}
-use Rattle.btree.specs.EditView.{edit_in}
-use Rattle.btree.specs.declared.editing.Edit.{Edit as TreeEdit}
+use Rattle.tree_model.specs.EditView.{edit_in}
+use Rattle.tree_model.specs.declared.edit.Edit.{Edit as TreeEdit}
 use Rattle.entries.specs.EditList.{edits_in}
 use Rattle.entries.proofs.NotingLemmas.{all_there, one_more}
 use Rattle.entries.proofs.edits.tree_edits.Goals as goal

@@ -1,5 +1,5 @@
 use Rattle.std.proofs.Common.{◌≡◌, ◌++◌, map}
-use Rattle.btree.specs.EditView.{edit_in}
+use Rattle.tree_model.specs.EditView.{edit_in}
 use Rattle.entries.specs.EditList.{edits_in}
 use Rattle.entries.proofs.edits.tree_edits.Given as goal
 

@@ -1,6 +1,6 @@
 use Rattle.std.proofs.Common.{◌≡◌, ◌-◌, List, ℕ, ◌++◌, true, arith, subst, sym}
 use Rattle.std.specs.Ordering.{is_lt}
-use Rattle.btree.specs.Keys.{key_cmp}
+use Rattle.tree_model.specs.Keys.{key_cmp}
 use Rattle.entries.proofs.FrontLemmas.{under_end}
 use Rattle.entries.proofs.other_keys.end_of.Goals as goal
 

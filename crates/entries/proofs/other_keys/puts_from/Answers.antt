@@ -1,8 +1,8 @@
 use Rattle.std.proofs.Common.{ℕ, ◌&&◌, List, sym, ap, subst, ◌∙◌}
 use Rattle.std.specs.Prelude.{is_some, nat_eq}
 use Rattle.std.specs.List.{starts_with}
-use Rattle.btree.specs.Change.{edit_keys}
-use Rattle.btree.specs.Keys.{Rises}
+use Rattle.tree_model.specs.Keys.{edit_keys}
+use Rattle.tree_model.specs.Keys.{Rises}
 use Rattle.entries.specs.EditList.{Noted, edits_in}
 use Rattle.entries.specs.OtherKeys.{is_another, puts_another}
 use Rattle.entries.proofs.OtherPutLemmas.{AreAbove, found_place, on_place, past_front}

@@ -1,7 +1,7 @@
 use Rattle.std.proofs.Common.{◌≡◌, false}
 use Rattle.std.specs.Ordering.{is_lt}
-use Rattle.btree.specs.Change.{edit_keys}
-use Rattle.btree.specs.Keys.{Each, Rises, key_cmp}
+use Rattle.tree_model.specs.Keys.{edit_keys}
+use Rattle.tree_model.specs.Keys.{Each, Rises, key_cmp}
 use Rattle.entries.specs.EditList.{edits_in}
 use Rattle.entries.specs.OtherKeys.{puts_another}
 use Rattle.entries.proofs.other_keys.puts_from.Given as goal

@@ -1,7 +1,7 @@
 use Rattle.std.proofs.Common.{◌≡◌, [], ◌∷◌, ◌++◌, map, sym, ap, subst, ◌∙◌}
 use Rattle.std.specs.Prelude.{OnOk}
 use Rattle.btree.specs.Scan.{entry_in}
-use Rattle.btree.proofs.ListLemmas.{map_append}
+use Rattle.tree_model.proofs.ListLemmas.{map_append}
 use Rattle.entries.specs.State.{put_collection}
 use Rattle.opening.specs.TurnStates.{TurnStates}
 use Rattle.opening.specs.Judging.{IsLoadingAs, IsName}

@@ -1,7 +1,7 @@
 use Rattle.std.proofs.Common.{sym, ap, subst, ◌∙◌, Ok, Err}
-use Rattle.btree.specs.declared.pages.TreeFault.{TreeFault}
-use Rattle.btree.specs.declared.pages.TreeFault.TheVariants as faults
-use Rattle.btree.specs.Reading.{IsNotFull}
+use Rattle.tree_model.specs.declared.pages.TreeFault.{TreeFault}
+use Rattle.tree_model.specs.declared.pages.TreeFault.TheVariants as faults
+use Rattle.tree_model.specs.Reading.{IsNotFull}
 use Rattle.pager.specs.Calls.{OnlyRead, ReadsPage, tree_fault}
 use Rattle.pager.proofs.ReadLemmas.{found_kept, not_full, read_cause, read_done, read_failed, model_in}
 use Rattle.pager.proofs.cached_pages.read_page.Goals as goal

@@ -9,12 +9,12 @@ use Rattle.page.specs.ImageView.{model_of}
 use Rattle.page.specs.View.{content_of as content_in}
 use Rattle.page.proofs.Moments.{read_further}
 use Rattle.roots.specs.declared.opening.OpenFault.TheVariants as faults
-use Rattle.btree.specs.Calls.{IsPart}
-use Rattle.btree.specs.Search.{AreBounds}
-use Rattle.btree.specs.Store.{IsAt, Store}
-use Rattle.btree.specs.Tree.{Body, Subtree, pivot_of, content_of, pages_of}
-use Rattle.btree.proofs.GetLemmas.{bounds_are}
-use Rattle.btree.proofs.ListLemmas.{at_place, long_map}
+use Rattle.tree_model.specs.Calls.{IsPart}
+use Rattle.tree_model.specs.Search.{AreBounds}
+use Rattle.tree_model.specs.Store.{IsAt, Store}
+use Rattle.tree_model.specs.Tree.{Body, Subtree, pivot_of, content_of, pages_of}
+use Rattle.tree_model.proofs.GetLemmas.{bounds_are}
+use Rattle.tree_model.proofs.ListLemmas.{at_place, long_map}
 use Rattle.roots.specs.Found.{HasFoundFan, HasFoundPairs, HasFoundPart, ReachesDepth}
 use Rattle.roots.specs.Image.{model_at}
 use Rattle.roots.specs.Walk.{CanReach, pages_in, pages_so_far}

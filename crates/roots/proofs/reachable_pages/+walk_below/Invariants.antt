@@ -2,8 +2,8 @@ use Rattle.std.proofs.Common.{◌≡◌, ◌-◌, ◌+◌, ◌<◌, ◌++◌, �
 use Rattle.std.specs.Option.{option_map}
 use Rattle.page.specs.History.{KeepsWord}
 use Rattle.page.specs.Crash.{HasRead}
-use Rattle.btree.specs.Calls.{IsPart}
-use Rattle.btree.specs.Tree.{Body, pivot_of, pages_of}
+use Rattle.tree_model.specs.Calls.{IsPart}
+use Rattle.tree_model.specs.Tree.{Body, pivot_of, pages_of}
 use Rattle.roots.specs.Found.{HasFoundFan}
 use Rattle.roots.specs.Walk.{CanReach, IsMarked, pages_in, pages_so_far}
 use Rattle.roots.proofs.reachable_pages.+walk_below.Given as goal

@@ -5,8 +5,8 @@ use Rattle.page.specs.View.{content_of}
 use Rattle.page.specs.ImageView.{model_of}
 use Rattle.std.specs.Prelude.{min}
 use Rattle.page.proofs.Moments.{read_further}
-use Rattle.btree.specs.Store.{IsAt}
-use Rattle.btree.specs.Tree.{next_of}
+use Rattle.tree_model.specs.Store.{IsAt}
+use Rattle.tree_model.specs.Tree.{next_of}
 use Rattle.roots.specs.Image.{model_at}
 use Rattle.roots.specs.Walk.{CanReach, pages_in, pages_so_far}
 use Rattle.roots.proofs.FoundLemmas.{chain_begins, chain_found, chain_more, page_there}

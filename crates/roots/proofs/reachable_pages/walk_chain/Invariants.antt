@@ -1,7 +1,7 @@
 use Rattle.std.proofs.Common.{◌≡◌, ℕ, List, length}
 use Rattle.page.specs.History.{KeepsWord}
 use Rattle.page.specs.Crash.{HasRead}
-use Rattle.btree.specs.Tree.{HasLinks, next_of}
+use Rattle.tree_model.specs.Tree.{HasLinks, next_of}
 use Rattle.roots.specs.Walk.{IsMarked, pages_in, pages_so_far}
 use Rattle.roots.proofs.FoundLemmas.{ChainSoFar}
 use Rattle.roots.proofs.WalkLemmas.{ChainRest}

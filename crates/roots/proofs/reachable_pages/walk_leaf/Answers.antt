@@ -3,10 +3,10 @@ use Rattle.std.specs.Option.{option_map}
 use Rattle.page.specs.Content.{Item}
 use Rattle.page.specs.CellView.{item_of as cell_item}
 use Rattle.page.proofs.Moments.{read_further}
-use Rattle.btree.specs.Keys.{IsBetween, Pair}
-use Rattle.btree.specs.Store.{Store}
-use Rattle.btree.specs.Tree.{HasChain, item_of}
-use Rattle.btree.proofs.ListLemmas.{At, at_place, each_of_map, long_map}
+use Rattle.tree_model.specs.Keys.{IsBetween, Pair}
+use Rattle.tree_model.specs.Store.{Store}
+use Rattle.tree_model.specs.Tree.{HasChain, item_of}
+use Rattle.tree_model.proofs.ListLemmas.{At, at_place, each_of_map, long_map}
 use Rattle.roots.specs.Walk.{CanReach, pages_in, pages_so_far}
 use Rattle.roots.specs.Found.{HasFoundValue}
 use Rattle.roots.proofs.FoundLemmas.{all_pairs_found, item_place, no_pairs_found, pairs_more}

@@ -2,8 +2,8 @@ use Rattle.std.proofs.Common.{◌≡◌, ◌++◌, ℕ, zero, List, map, take}
 use Rattle.page.specs.History.{KeepsWord}
 use Rattle.page.specs.Crash.{HasRead}
 use Rattle.std.specs.Option.{option_map}
-use Rattle.btree.specs.Keys.{Each, IsBetween, Pair}
-use Rattle.btree.specs.Tree.{Shows, item_of, pages_of, pair_keys}
+use Rattle.tree_model.specs.Keys.{Each, IsBetween, Pair}
+use Rattle.tree_model.specs.Tree.{Shows, item_of, pages_of, pair_keys}
 use Rattle.roots.specs.Found.{HasFoundPairs}
 use Rattle.roots.specs.Walk.{CanReach, IsMarked, pages_in, pages_so_far}
 use Rattle.roots.proofs.reachable_pages.walk_leaf.Given as goal

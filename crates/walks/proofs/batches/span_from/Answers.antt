@@ -1,7 +1,7 @@
 use Rattle.std.proofs.Common.{◌≡◌, Bool, List, ℕ, Some, option_map, ap, subst, sym, ◌∙◌}
 use Rattle.std.specs.Prelude.{MatchBool}
 use Rattle.std.specs.declared.cmp.Ordering.TheVariants.{Less}
-use Rattle.btree.specs.Keys.{IsPast, IsWithin, key_cmp}
+use Rattle.tree_model.specs.Keys.{IsPast, IsWithin, key_cmp}
 use Rattle.filter.specs.Matches.{matches}
 use Rattle.walks.specs.Batches.{PassFrom}
 use Rattle.walks.specs.declared.id_range.IdSpan.{IdSpan}

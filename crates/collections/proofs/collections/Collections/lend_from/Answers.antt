@@ -1,6 +1,6 @@
 use Rattle.std.proofs.Common.{refl, rules, subst, sym, List, Result, Ok, Err}
 use Rattle.btree.specs.Fold.{between}
-use Rattle.btree.specs.Keys.{Entry}
+use Rattle.tree_model.specs.Keys.{Entry}
 use Rattle.path.specs.declared.refusal.Refusal.{Refusal}
 use Rattle.entries.specs.State.{Collection}
 use Rattle.collections.specs.Below.{IsNothing, ReadsBelow}

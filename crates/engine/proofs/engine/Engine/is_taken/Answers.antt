@@ -1,5 +1,5 @@
 use Rattle.std.proofs.Common.{◌≡◌, List, Bool, map, subst}
-use Rattle.btree.specs.Keys.{Entry}
+use Rattle.tree_model.specs.Keys.{Entry}
 use Rattle.collections.specs.Calls.{Reads}
 use Rattle.collections.specs.OtherKeys.{TellsOf, is_taken}
 use Rattle.index.specs.View.{texts_of}

@@ -2,7 +2,7 @@ use Rattle.std.proofs.Common.{inl, inr, List, [], map, refl, rules, sym, subst, 
 use Rattle.std.specs.Prelude.{All, Ok}
 use Rattle.std.proofs.lemmas.List.{map-id}
 use Rattle.std.proofs.lemmas.Result.{err_from_is_err_and}
-use Rattle.btree.specs.Keys.{Edit}
+use Rattle.tree_model.specs.Keys.{Edit}
 use Rattle.bson.specs.Tree.{Pairs}
 use Rattle.engine.specs.Removing.{deleted}
 use Rattle.engine.specs.TakingOut.{IsIndexable, TakesOut}

@@ -1,6 +1,6 @@
 use Rattle.std.proofs.Common.{List, ap, ◌∙◌}
-use Rattle.btree.specs.Change.{edit_keys}
-use Rattle.btree.specs.Keys.{Edit}
+use Rattle.tree_model.specs.Keys.{edit_keys}
+use Rattle.tree_model.specs.Keys.{Edit}
 use Rattle.index.specs.Changes.{is_among}
 use Rattle.entries.proofs.EditPlaceLemmas.{has_told}
 use Rattle.entries.proofs.edits.Edits.has.Goals as goal

@@ -1,5 +1,5 @@
 use Rattle.std.proofs.Common.{ℕ, ◌≤◌, List, length, sym, ap, subst, ◌∙◌}
-use Rattle.btree.specs.Keys.{Edit}
+use Rattle.tree_model.specs.Keys.{Edit}
 use Rattle.entries.specs.Indexed.{with_edits, NotesSome}
 use Rattle.entries.specs.StateEntries.{document_entry, document_entries, put_of, puts}
 use Rattle.entries.proofs.LoopLemmas.{on_err, if_err}

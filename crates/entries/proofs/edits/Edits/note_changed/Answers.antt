@@ -1,5 +1,5 @@
 use Rattle.std.proofs.Common.{ℕ, List, [], ◌∷◌, map, get_or, Bor, refl}
-use Rattle.btree.specs.Keys.{Edit}
+use Rattle.tree_model.specs.Keys.{Edit}
 use Rattle.entries.specs.declared.indexed_edits.EntryEdit.{EntryEdit}
 use Rattle.entries.specs.Indexed.{edit_by, edits_by, entries_at, entry_at}
 use Rattle.entries.proofs.ManyEditsLaws.{stays}

@@ -1,5 +1,5 @@
 use Rattle.std.proofs.Common.{List, [], ◌∷◌, sym, ap, subst, ◌∙◌}
-use Rattle.btree.specs.Keys.{Each, Edit}
+use Rattle.tree_model.specs.Keys.{Each, Edit}
 use Rattle.entries.specs.EditList.{IsShortEdit, Noted, edit_of, edits_in}
 use Rattle.entries.specs.Indexed.{with_edits}
 use Rattle.entries.proofs.ManyEditsLaws.{begins, ends, goes_further, noted_goes}

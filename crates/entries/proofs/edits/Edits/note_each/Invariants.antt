@@ -1,4 +1,4 @@
-use Rattle.btree.specs.Keys.{Each}
+use Rattle.tree_model.specs.Keys.{Each}
 use Rattle.entries.specs.EditList.{IsShortEdit, edits_in}
 use Rattle.entries.specs.Indexed.{NotesUpTo}
 use Rattle.entries.proofs.edits.Edits.note_each.Given as goal

@@ -1,6 +1,6 @@
 use Rattle.std.proofs.Common.{ℕ, ◌≤◌, List, map, length, subst, ◌∙◌, arith}
 use Rattle.std.specs.Global.{Vec}
-use Rattle.btree.specs.Keys.{Edit}
+use Rattle.tree_model.specs.Keys.{Edit}
 use Rattle.entries.specs.Indexed.{with_edits, edit_by, edits_by, entries_at, entries_in_all, NotesSome}
 use Rattle.index.specs.View.{texts_of}
 use Rattle.entries.proofs.LoopLemmas.{on_err}

@@ -1,6 +1,6 @@
 use Rattle.std.proofs.Common.{ℕ, List, [], ◌∷◌, refl, ap, ◌∙◌}
 use Rattle.std.specs.Global.{Vec}
-use Rattle.btree.specs.Keys.{Edit}
+use Rattle.tree_model.specs.Keys.{Edit}
 use Rattle.entries.specs.EditList.{with_edit}
 use Rattle.entries.specs.declared.indexed_edits.EntryEdit.{EntryEdit}
 use Rattle.entries.specs.Indexed.{edit_by, edits_by, entries_at, entry_at}

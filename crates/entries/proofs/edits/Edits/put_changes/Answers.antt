@@ -1,5 +1,5 @@
 use Rattle.std.proofs.Common.{◌≡◌, ℕ, ◌≤◌, List, map, length, sym, ap, subst, ◌∙◌, arith}
-use Rattle.btree.specs.Keys.{Edit}
+use Rattle.tree_model.specs.Keys.{Edit}
 use Rattle.index.specs.declared.changes.KeyChanges.{KeyChanges}
 use Rattle.entries.specs.Indexed.{with_edits, entries_at, entries_in_all, NotesSome}
 use Rattle.entries.specs.StateEntries.{put_of, puts}

@@ -1,5 +1,5 @@
 use Rattle.std.proofs.Common.{List, ap, subst, ◌∙◌}
-use Rattle.btree.specs.Keys.{Entry, Edit}
+use Rattle.tree_model.specs.Keys.{Entry, Edit}
 use Rattle.entries.specs.Indexed.{with_edits, NotesSome}
 use Rattle.entries.specs.StateEntries.{index_entries, puts}
 use Rattle.index.specs.View.{texts_of}

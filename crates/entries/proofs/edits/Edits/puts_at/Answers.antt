@@ -1,6 +1,6 @@
 use Rattle.std.proofs.Common.{List, Some, None, ap, ◌∙◌}
 use Rattle.std.specs.Prelude.{is_some, option_map}
-use Rattle.btree.specs.Keys.{Edit}
+use Rattle.tree_model.specs.Keys.{Edit}
 use Rattle.entries.specs.EditList.{edit_at}
 use Rattle.entries.proofs.EditPlaceLemmas.{puts_told}
 use Rattle.entries.proofs.edits.Edits.puts_at.Goals as goal

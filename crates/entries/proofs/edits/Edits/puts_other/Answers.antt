@@ -1,7 +1,7 @@
 use Rattle.std.proofs.Common.{◌≡◌, ℕ, List, sym, ap, subst, ◌∙◌}
 use Rattle.std.specs.List.{filter}
-use Rattle.btree.specs.Change.{edit_keys}
-use Rattle.btree.specs.Keys.{Rises}
+use Rattle.tree_model.specs.Keys.{edit_keys}
+use Rattle.tree_model.specs.Keys.{Rises}
 use Rattle.entries.specs.EditList.{Noted, edits_in}
 use Rattle.entries.specs.OtherKeys.{puts_another}
 use Rattle.entries.proofs.OtherPutLemmas.{AreAbove, above_kept, from_front, rises_kept, skipped}

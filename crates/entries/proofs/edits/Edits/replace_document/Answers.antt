@@ -1,7 +1,7 @@
 use Rattle.std.proofs.Common.{◌≡◌, ℕ, ◌≤◌, List, ◌∷◌, map, length, refl, sym, ap, subst, ◌∙◌}
 use Rattle.std.specs.List.{flat_map}
 use Rattle.value_order.specs.KeyText.{tree_text}
-use Rattle.btree.specs.Keys.{Entry, Edit}
+use Rattle.tree_model.specs.Keys.{Entry, Edit}
 use Rattle.entries.specs.Indexed.{with_edits, NotesSome, replacing_in, without_all}
 use Rattle.entries.specs.State.{key_of}
 use Rattle.entries.specs.StateEntries.{document_entry, put_of, puts, removals}

@@ -1,6 +1,6 @@
 use Rattle.std.proofs.Common.{◌≡◌, ◌∙◌, List, arith, length, ℕ, rules, subst, sym, ap}
 use Rattle.page.specs.Format.{PageModel}
-use Rattle.btree.specs.View.{content_in}
+use Rattle.tree_model.specs.View.{content_in}
 use Rattle.pager.proofs.ListLemmas.{pushed_on}
 use Rattle.pager.specs.Order.{StandsAt}
 use Rattle.pager.proofs.OrderLemmas.{inserted}

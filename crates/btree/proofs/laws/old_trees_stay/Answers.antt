@@ -1,5 +1,0 @@
-use Rattle.btree.proofs.OnceLemmas.{old_trees_stay}
-use Rattle.btree.proofs.laws.old_trees_stay.Goals as goal
-
-pub returns : goal.returns
-returns c = old_trees_stay

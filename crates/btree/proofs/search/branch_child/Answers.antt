@@ -1,5 +1,0 @@
-use Rattle.btree.proofs.SearchLemmas.{got_itself}
-use Rattle.btree.proofs.search.branch_child.Goals as goal
-
-pub returns : goal.returns
-returns c = got_itself c.args.branch.now c.args.i _ c.child.ensures

@@ -1,0 +1,9 @@
+pub mod CapacityLemmas
+pub mod FanLemmas
+pub mod GetLemmas
+pub mod KeyLemmas
+pub mod ListLemmas
+pub mod OnceLemmas
+pub mod ReachLemmas
+pub mod SearchLemmas
+pub mod StoreLemmas

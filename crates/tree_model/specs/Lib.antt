@@ -1,0 +1,10 @@
+pub mod Calls
+pub mod EditView
+pub mod Keys
+pub mod Laws
+pub mod Reach
+pub mod Reading
+pub mod Search
+pub mod Store
+pub mod Tree
+pub mod View
