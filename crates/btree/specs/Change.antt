@@ -1,5 +1,5 @@
 -- Edits of a tree's children.
-use Rattle.std.specs.Prelude.{◌≡◌, ℕ, ◌⊎◌, ◌≤◌, List, [], length, map, Option, Some, None, Result}
+use Rattle.std.specs.Prelude.{◌≡◌, ℕ, ◌⊎◌, ◌≤◌, List, [], length, Option, Some, None, Result}
 use Rattle.std.specs.Prelude.{MatchResult}
 use Rattle.tree_model.specs.Keys.{Edit, Entry, times}
 use Rattle.btree.specs.Loose.{Slot, first_or}

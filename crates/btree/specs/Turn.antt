@@ -9,6 +9,7 @@ use Rattle.tree_model.specs.Calls.{Yields}
 use Rattle.tree_model.specs.Keys.{Each, Entry, IsNotUnder, times}
 use Rattle.btree.specs.Loose.{IsSpread, IsSlot, Slot, bare, child, first_or, slots_of}
 use Rattle.btree.specs.LooseView.{slot_in}
+use Rattle.tree_model.specs.Reach.{AreTurned}
 use Rattle.tree_model.specs.Store.{Store, Frame, IsAt}
 use Rattle.tree_model.specs.Tree.{Body, Shows, content_of, entries_of, pages_of}
 

@@ -1,5 +1,5 @@
 -- The pages that a tree reaches.
-use Rattle.std.specs.Prelude.{◌≡◌, ◌⊎◌, ℕ, ◌≤◌, List, [], ◌∷◌}
+use Rattle.std.specs.Prelude.{◌≡◌, ◌⊎◌, ℕ, ◌+◌, ◌≤◌, List, [], ◌∷◌}
 use Rattle.tree_model.specs.Keys.{Entry, times}
 use Rattle.tree_model.specs.Store.{Store}
 use Rattle.tree_model.specs.Tree.{Body, IsTree, entries_of, pages_of}
