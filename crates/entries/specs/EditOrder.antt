@@ -1,5 +1,5 @@
 -- A list of edits in the order of their keys.
-use Rattle.std.specs.Prelude.{ℕ, List, [], ◌∷◌, map}
+use Rattle.std.specs.Prelude.{ℕ, List, [], ◌∷◌}
 use Rattle.std.specs.declared.cmp.Ordering.{Ordering}
 use Rattle.std.specs.declared.cmp.Ordering.TheVariants.{Less, Equal, Greater}
 use Rattle.tree_model.specs.Keys.{Edit, key_cmp}
@@ -19,6 +19,3 @@ with_earlier e (f ∷ fs) = earlier_at (key_cmp e.key f.key) e f fs (with_earlie
 abbrev pub in_key_order : List Edit → List Edit
 in_key_order [] = []
 in_key_order (e ∷ es) = with_earlier e (in_key_order es)
-
-abbrev pub edit_keys : List Edit → List (List ℕ)
-edit_keys es = map (λ e. e.key) es

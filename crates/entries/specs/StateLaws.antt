@@ -14,7 +14,8 @@ use Rattle.entries.specs.State.{put_collection, without_collection}
 use Rattle.entries.specs.StateEntries.{catalogue_entry, document_entry, index_entry, index_entries}
 use Rattle.entries.specs.StateEntries.{document_entries, collection_entries, state_entries}
 use Rattle.entries.specs.StateEntries.{IsEntryOf, entry_keys, Spells, put_of, puts, removals, Leads}
-use Rattle.entries.specs.EditOrder.{in_key_order, edit_keys}
+use Rattle.tree_model.specs.Keys.{edit_keys}
+use Rattle.entries.specs.EditOrder.{in_key_order}
 use Rattle.entries.specs.LawfulState.{IsKept, IsLawfulState}
 
 -- ---- what spells a state
