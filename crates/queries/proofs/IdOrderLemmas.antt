@@ -2,7 +2,7 @@
 use Rattle.std.proofs.Common.{◌≡◌, Bool, true, false, List, [], ◌∷◌, ◌++◌, Option, Some, None, refl, ap, subst, ◌∙◌}
 use Rattle.std.specs.Prelude.{All, not, option_and_then}
 use Rattle.std.specs.List.{flat_map}
-use Rattle.std.specs.Ordering.{extends, ordering_then}
+use Rattle.std.specs.Ordering.{on, ordering_then}
 use Rattle.std.specs.declared.cmp.Ordering.{Ordering}
 use Rattle.std.specs.declared.cmp.Ordering.TheVariants.{Less}
 use Rattle.std.proofs.lemmas.List.Elements.{All-filter, All-head, All-tail}
@@ -28,7 +28,7 @@ use Rattle.planner.proofs.UsableLemmas.{and_first, and_second}
 use Rattle.candidate_ids.proofs.ByIdLemmas.{reached_id}
 
 abbrev by_key : Pairs → Pairs → Ordering
-by_key = extends key_of compare
+by_key = on key_of compare
 
 -- ---- the sort's key at `_id` is the `_id`
 

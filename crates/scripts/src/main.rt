@@ -2,14 +2,11 @@
 //! what differs, and how many tests passed.
 #![tactic(auto)]
 
-mod device;
 mod everywhere;
-mod last_commit;
 mod one_run;
 mod player;
 mod playing;
 mod script;
-mod sectors;
 mod session;
 mod test;
 

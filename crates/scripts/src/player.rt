@@ -1,10 +1,10 @@
 //! Plays the lines of a test to a server: what is sent, turns, and what they hand out.
 
-use crate::device::Orders;
 use crate::one_run::OneRun;
 use crate::session::Session;
 use op_msg::FrameFault;
 use page::MemDisk;
+use script_disks::Orders;
 use script_text::{Draft, Fault, Reply, Shape, Subject, differs, number_of};
 use server::{Counts, OpenFault, TurnOut};
 use std::alloc::Global;

@@ -1,10 +1,9 @@
 //! What a line of a test asks for.
 
-use crate::last_commit::with_last_commit;
 use crate::player::Player;
-use crate::sectors::{is_sector, put_in_sector, read_sector};
 use bson::{Array, Document, Text, Value, decode};
 use page::MemDisk;
+use script_disks::{is_sector, put_in_sector, read_sector, with_last_commit};
 use script_text::{
     Draft, Fault, Reply, Word, batch_reply, bytes_in, differs, document_in, documents_in, done,
     is_document, number_in, values_in, with_ids,

@@ -1,9 +1,9 @@
 //! A server whose device a script has in its hands.
 
-use crate::device::{Device, Orders};
 use crate::one_run::OneRun;
 use engine::ConnId;
 use page::MemDisk;
+use script_disks::{Device, Orders};
 use script_text::Fault;
 use server::{CheckFault, Config, Core, Counts, FeedFault, OpenFault, TurnFault, TurnOut};
 use std::alloc::Global;

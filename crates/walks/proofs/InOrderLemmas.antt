@@ -5,7 +5,7 @@ use Rattle.std.specs.Prelude.{All, Contains}
 use Rattle.std.specs.Int.{w32, to_be_bytes}
 use Rattle.std.specs.List.{AllByRecursion, filter, flat_map, list_any}
 use Rattle.std.specs.Option.{option_to_list}
-use Rattle.std.specs.Ordering.{is_gt, is_lt, extends, ordering_reverse}
+use Rattle.std.specs.Ordering.{is_gt, is_lt, on, ordering_reverse}
 use Rattle.std.specs.Cmp.Lexicographic.{nat_list_cmp_total}
 use Rattle.std.specs.declared.cmp.Ordering.{Ordering}
 use Rattle.std.specs.declared.cmp.Ordering.TheVariants.{Less, Equal, Greater}
@@ -118,7 +118,7 @@ entry_twice i low high up ds =
 pub order_filter : (sort : List SortField) (p : Pairs → Bool) (ds : List Pairs) → IsRising ds → order sort (filter p ds) ≡ filter p (order sort ds)
 order_filter sort p ds rising =
     sym ((sorts_to_answer sort (filter p ds)
-    (pairs_of (extends key_of compare) (filter p ds) (rises_filter p (extends key_of compare) ds (rises_of (extends key_of compare) ds rising)))).1
+    (pairs_of (on key_of compare) (filter p ds) (rises_filter p (on key_of compare) ds (rises_of (on key_of compare) ds rising)))).1
     (filter p (order sort ds))
     (pairs_of (answer_cmp sort) (filter p (order sort ds))
     (rises_filter p (answer_cmp sort) (order sort ds) (rises_of (answer_cmp sort) (order sort ds) (sorts_to_answer sort ds rising).0)))
@@ -248,14 +248,14 @@ module _ (rs : Conditions) (sort : List SortField) (i : Definition) (last : List
 
   rest_rising : (from : List ℕ) → IsRising (rest_from_entry i from ds)
   rest_rising from =
-      pairs_of (extends key_of compare) (rest_from_entry i from ds)
-      (rises_filter (is_from_entry i from) (extends key_of compare) ds (rises_of (extends key_of compare) ds rising))
+      pairs_of (on key_of compare) (rest_from_entry i from ds)
+      (rises_filter (is_from_entry i from) (on key_of compare) ds (rises_of (on key_of compare) ds rising))
 
   found_rising : (from : List ℕ) → IsRising (matching rs (rest_from_entry i from ds))
   found_rising from =
-      pairs_of (extends key_of compare) (matching rs (rest_from_entry i from ds))
-      (rises_filter (matches rs) (extends key_of compare) (rest_from_entry i from ds)
-      (rises_of (extends key_of compare) (rest_from_entry i from ds) (rest_rising from)))
+      pairs_of (on key_of compare) (matching rs (rest_from_entry i from ds))
+      (rises_filter (matches rs) (on key_of compare) (rest_from_entry i from ds)
+      (rises_of (on key_of compare) (rest_from_entry i from ds) (rest_rising from)))
 
   -- each of them is one of the documents, and isn't below the entry
   all_there : (from : List ℕ) (d : Pairs) → Among d (all_from from) → Among d ds × (is_from_entry i from d ≡ true)

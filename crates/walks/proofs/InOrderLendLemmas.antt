@@ -4,7 +4,7 @@ use Rattle.std.proofs.Common.{Option, Some, None, Result, Ok, Err}
 use Rattle.std.proofs.Common.{get_or, refl, sym, ap, subst, ◌∙◌, arith, append_assoc, append-nil}
 use Rattle.std.specs.Prelude.{All, Contains, MatchOption, MatchResult, is_some, ◌||◌}
 use Rattle.std.specs.Global.{Vec}
-use Rattle.std.specs.Ordering.{extends}
+use Rattle.std.specs.Ordering.{on}
 use Rattle.std.proofs.lemmas.List.{drop-map, length-map, take-append-drop, take_all}
 use Rattle.bson.specs.Tree.{Pairs}
 use Rattle.value_order.specs.Order.{compare}
@@ -83,7 +83,7 @@ module _ (i : Definition) (ds : List Pairs) (storable : All IsStorable ds) (risi
   found_by (text ∷ texts) given = with_entry text texts (given text (inl refl)) (found_by texts (λ t g. given t (inr g)))
 
   found_one : (d : Pairs) → Among d ds → find_document ds (key_of d) ≡ Some d
-  found_one d there = (each_found ds (d ∷ []) (rises_of (extends key_of compare) ds rising) at).0
+  found_one d there = (each_found ds (d ∷ []) (rises_of (on key_of compare) ds rising) at).0
     where
       at : (x : Pairs) → Among x (d ∷ []) → Among x ds
       at x (inl e) = subst (λ (y : Pairs). Among y ds) (sym e) there

@@ -4,7 +4,7 @@ use Rattle.std.proofs.Common.{refl, sym}
 use Rattle.std.proofs.Common.{ap, subst, ◌∙◌, arith, get_or}
 use Rattle.std.specs.Prelude.{not, ◌&&◌, All, Contains}
 use Rattle.std.specs.List.{filter}
-use Rattle.std.specs.Ordering.{is_lt, extends, ordering_reverse}
+use Rattle.std.specs.Ordering.{is_lt, on, ordering_reverse}
 use Rattle.std.specs.Cmp.Lexicographic.{nat_list_cmp_total}
 use Rattle.std.specs.declared.cmp.Ordering.{Ordering}
 use Rattle.std.specs.declared.cmp.Ordering.TheVariants.{Less, Equal, Greater}
@@ -39,7 +39,7 @@ abbrev text : Pairs → List ℕ
 text d = tree_text (key_of d)
 
 abbrev by_key : Pairs → Pairs → Ordering
-by_key = extends key_of compare
+by_key = on key_of compare
 
 -- ---- texts order as the documents do
 

@@ -14,7 +14,11 @@ pub fn read_sector(memory: &mut MemDisk, number: u64) -> Result<[u8; 512], Fault
 }
 
 /// Writes a sector.
-pub fn write_sector(memory: &mut MemDisk, number: u64, bytes: &[u8; 512]) -> Result<(), Fault> {
+pub(crate) fn write_sector(
+    memory: &mut MemDisk,
+    number: u64,
+    bytes: &[u8; 512],
+) -> Result<(), Fault> {
     match memory.write(number, bytes) {
         Ok(()) => Ok(()),
         Err(_) => Err(Fault::Memory),
@@ -37,12 +41,20 @@ pub fn put_in_sector(
 pub fn is_sector(alloc: Global, sector: &[u8; 512], front: &[u8]) -> Result<(), Fault> {
     let mut whole = [0; 512];
     put_over(&mut whole, 0, front)?;
-    for (place, (wanted, came)) in whole.iter().zip(sector.iter()).enumerate() {
+    let Some((place, wanted, came)) = first_difference(&whole, sector) else {
+        return Ok(());
+    };
+    let wanted = format!(in alloc; "{wanted:02x} at byte {place} of the sector")?;
+    let came = format!(in alloc; "{came:02x}")?;
+    Err(differs(alloc, wanted.as_str(), came.as_str())?)
+}
+
+/// The first place where a sector has another byte than is wanted, with both.
+fn first_difference(wanted: &[u8; 512], came: &[u8; 512]) -> Option<(usize, u8, u8)> {
+    for (place, (wanted, came)) in wanted.iter().zip(came.iter()).enumerate() {
         if wanted != came {
-            let wanted = format!(in alloc; "{wanted:02x} at byte {place} of the sector")?;
-            let came = format!(in alloc; "{came:02x}")?;
-            return Err(differs(alloc, wanted.as_str(), came.as_str())?);
+            return Some((place, *wanted, *came));
         }
     }
-    Ok(())
+    None
 }
