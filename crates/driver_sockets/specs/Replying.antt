@@ -1,6 +1,6 @@
 -- What becomes of a socket's message: it is asked next, or its answer is ready, or it has none.
 use Rattle.op_msg.specs.ReplyNumbers.{next_number}
-use Rattle.std.specs.Prelude.{◌≡◌, ◌⊎◌, ◌<◌, ◌+◌, ℕ, Bool, true, false, nat_le, nat_lt, List}
+use Rattle.std.specs.Prelude.{◌≡◌, ◌⊎◌, ◌<◌, ℕ, Bool, true, false, nat_le, List}
 use Rattle.std.specs.Prelude.{length, drop, slice_index_or, option_map, Result, Ok, Err, Option}
 use Rattle.std.specs.Prelude.{Some, None, Vec, if◌then◌else◌}
 use Rattle.bson.specs.Spelling.{frame_of, pairs_bytes}

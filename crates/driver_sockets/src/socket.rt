@@ -26,6 +26,7 @@ use std::mem;
 
 /// The most bytes of an answer's document.
 const MOST_BYTES: usize = MESSAGE_LIMIT - 36;
+
 /// A socket of a driver.
 pub struct Socket {
     /// Its bytes that no message has taken.
