@@ -115,7 +115,7 @@ impl MemDisk {
 
     /// A disk of zeros. It keeps its word.
     pub fn new(alloc: Global) -> Self
-        ensures allocate { IsFresh (memory_history result) }
+        ensures fresh { IsFresh (memory_history result) }
         ensures zeros { now (memory_history result) ≡ blank }
     {
         MemDisk::over(alloc, Vec::new(alloc), BTreeMap::new(alloc))
@@ -148,7 +148,7 @@ impl MemDisk {
     /// The disk that a crash may leave, all of it synced. It keeps its word. Bit i of the mask says whether the i-th of
     /// the last ten pending writes lands, the oldest of them first, and bit 10 whether the earlier ones do.
     pub fn image(&self, mask: u16) -> Result<MemDisk, AllocError>
-        ensures allocate { IfOk result (λ disk. IsFresh (memory_history disk)) }
+        ensures fresh { IfOk result (λ disk. IsFresh (memory_history disk)) }
         ensures image { let before = now (memory_history self.now) in
             IfOk result (λ disk. IsImage before (reads (now (memory_history disk)))) }
     {

@@ -28,13 +28,13 @@ times_other n page ne = let test : (n == page) ≡ false = grind (arith, nat_tes
 pub marks_more : (pages pages' : List ℕ) (seen : List Bool) (page : ℕ) → pages' ≡ pages ++ page ∷ [] → page < length seen → get_or seen page false ≡ false
     → ((n : ℕ) → times n pages ≡ (if get_or seen n false then 1 else 0)) → (n : ℕ)
     → times n pages' ≡ (if get_or (slice_set seen page true) n false then 1 else 0)
-marks_more pages pages' seen page is within allocate marks n =
+marks_more pages pages' seen page is within fresh marks n =
     let counts : times n pages' ≡ times n pages + times n (page ∷ []) = ap (times n) is ∙ times_append n pages (page ∷ []) in
     elim (cases_eq n page) [
       | inl same ↦
           let now : get_or (slice_set seen page true) n false ≡ true =
           ap (λ (k : ℕ). get_or (slice_set seen page true) k false) same ∙ get_or-set_same seen page true false within in
-          let before : get_or seen n false ≡ false = ap (λ (k : ℕ). get_or seen k false) same ∙ allocate in
+          let before : get_or seen n false ≡ false = ap (λ (k : ℕ). get_or seen k false) same ∙ fresh in
           omega (arith, counts, times_same n page same, marks n, ap one_if now, ap one_if before)
       | inr ne ↦
           let now : get_or (slice_set seen page true) n false ≡ get_or seen n false = get_or-set_other seen page n true false ne in
