@@ -14,6 +14,7 @@ pub mod MarkLemmas
 pub mod OpenLemmas
 pub mod OtherKeyLemmas
 pub mod ReadingLemmas
+pub mod RememberingLemmas
 pub mod StandingLemmas
 pub mod TakenLemmas
 pub mod TreeReadLemmas

@@ -6,6 +6,7 @@ ghost use Rattle.collections.specs.Calls.{Applies};
 ghost use Rattle.pager.specs.View.{store_of};
 
 use crate::collections::Collections;
+use crate::remembered::forget_tree;
 use btree::change;
 use entries::Edits;
 use page::Disk;
@@ -52,6 +53,7 @@ impl<D: Disk> Collections<D> {
         if edits.is_empty() {
             return Ok(());
         }
+        forget_tree(&mut self.remembered);
         let mark = self.pager.mark();
         match changed_root(self.alloc, &mut self.pager, self.root, edits) {
             Ok(root) => {

@@ -3,7 +3,7 @@
 ghost use Rattle.std.specs.Prelude.{◌≡◌};
 
 use crate::mark::Mark;
-use crate::remembered::Remembered;
+use crate::remembered::{Remembered, forget_tree};
 use page::Disk;
 use pager::Pager;
 use roots::{CommitFault, OpenFault, PageCounts};
@@ -20,7 +20,7 @@ pub struct Collections<D: Disk> {
     pub(crate) root: u32,
     /// Where the turn began.
     begun: pager::Mark,
-    /// What the catalogue said of the last collection with indexes that was asked for.
+    /// What the catalogue said of the last collection that was asked for. It names a tree only while that has what it said.
     pub(crate) remembered: Option<Remembered>,
 }
 
@@ -43,10 +43,12 @@ impl<D: Disk> Model for Collections<D> {
     ghost Value = { State D };
 
     ghost use Rattle.std.specs.Prelude.{◌≡◌};
+    ghost use Rattle.collections.specs.Remembering.{IsRemembered};
 
     ghost view = { λ a. record { pager = a.pager; root = a.root } };
 
-    ghost invariant = { λ a. (a.begun.made ≡ 0) × (a.begun.retired ≡ 0) };
+    ghost invariant = { λ a. (a.begun.made ≡ 0) × (a.begun.retired ≡ 0)
+        × IsRemembered D.history (record { pager = a.pager; root = a.root }) a.remembered };
 }
 
 impl<D: Disk> Collections<D> {
@@ -104,14 +106,14 @@ impl<D: Disk> Collections<D> {
             pager,
             root,
             begun,
-            remembered,
+            remembered: _,
         } = self;
         Collections {
             alloc,
             pager: pager.trusting(),
             root,
             begun,
-            remembered,
+            remembered: None,
         }
     }
 
@@ -177,6 +179,7 @@ impl<D: Disk> Collections<D> {
         ensures versions { KeepsThen D.history mark self.old self.new }
         ensures pins { pins_of self.new ≡ pins_of self.old }
     {
+        forget_tree(&mut self.remembered);
         self.pager.undo_to(mark.pages);
         self.root = mark.root;
     }
@@ -187,6 +190,7 @@ impl<D: Disk> Collections<D> {
         ensures versions { KeepsSinceStart D.history self.old self.new }
         ensures pins { pins_of self.new ≡ pins_of self.old }
     {
+        forget_tree(&mut self.remembered);
         self.pager.undo_to(self.begun);
         self.root = self.pager.root();
     }
@@ -198,6 +202,7 @@ impl<D: Disk> Collections<D> {
         ensures versions { CommitsVersions D.history result self.old self.new }
         ensures pins { pins_of self.new ≡ pins_of self.old }
     {
+        forget_tree(&mut self.remembered);
         self.pager.commit(self.root)
     }
 }

@@ -4,7 +4,9 @@ ghost use Rattle.std.specs.Prelude.{◌≡◌, IfOk, IfSome, List, length, map};
 ghost use Rattle.std.specs.Option.{option_map};
 ghost use Rattle.bson.specs.Spelling.{frame_of, pairs_bytes};
 ghost use Rattle.bson.specs.Tree.{Pairs};
+ghost use Rattle.page.specs.History.{KeepsWord};
 ghost use Rattle.btree.specs.Scan.{entry_in};
+ghost use Rattle.tree_model.specs.Store.{IsSame};
 ghost use Rattle.entries.specs.LawfulState.{IsKept, IsStorable};
 ghost use Rattle.entries.specs.State.{Collection, find_collection};
 ghost use Rattle.entries.specs.StateEntries.{catalogue_entry};
@@ -12,10 +14,11 @@ ghost use Rattle.collections.specs.Below.{IsNothing, ReadsBelow};
 ghost use Rattle.collections.specs.Calls.{Reads};
 ghost use Rattle.collections.specs.Entries.{AreNextEntries, ReadsEntries, ReadsTree};
 ghost use Rattle.collections.specs.Reading.{AreBytesAt, AreEach, IsBatchOf, IsInTree, IsNameOf, IsOfCollection, IsOfDocument, IsPlaceOf, IsValueAt, IsWithinLimits, LooksUp, OrMemory, ReadsOf, catalogued_in, catalogued_of, name_in, name_of, stored_at};
+ghost use Rattle.collections.specs.View.{disk_history, pages_of};
 
 use crate::applying::refusal_of;
 use crate::collections::Collections;
-use crate::remembered::Remembered;
+use crate::remembered::{remember, told_again};
 use bson::{Document, SpelledDocument};
 use btree::{Batch, Entry, Range, get, scan};
 use entries::{
@@ -134,7 +137,7 @@ pub(crate) fn spelled_of(
 }
 
 /// The number and the indexes that the catalogue tells of a collection.
-fn told_in(alloc: Global, value: &[u8]) -> Result<Catalogued, Refusal>
+pub(crate) fn told_in(alloc: Global, value: &[u8]) -> Result<Catalogued, Refusal>
     ensures told { (c : Collection) → IsKept c → value.now ≡ (catalogue_entry c).value
         → OrMemory (λ told. catalogued_of told ≡ catalogued_in c) result }
     ensures limits { IfOk result IsWithinLimits }
@@ -143,30 +146,6 @@ fn told_in(alloc: Global, value: &[u8]) -> Result<Catalogued, Refusal>
         Some(told) => Ok(told),
         None => Err(Refusal::StorageFailed),
     }
-}
-
-/// The same, copied from what is remembered where the value is the same, else decoded and remembered, if the collection has indexes.
-fn told_again(
-    alloc: Global,
-    remembered: &mut Option<Remembered>,
-    value: Vec<u8>,
-) -> Result<Catalogued, Refusal>
-    ensures told { (c : Collection) → IsKept c → value.items ≡ (catalogue_entry c).value
-        → OrMemory (λ told. catalogued_of told ≡ catalogued_in c) result }
-    ensures limits { IfOk result IsWithinLimits }
-{
-    if let Some(last) = remembered {
-        if let Some(told) = last.told_by(&value)? {
-            return Ok(told);
-        }
-    }
-    let told = told_in(alloc, &value)?;
-    if told.indexes.is_empty() {
-        return Ok(told);
-    }
-    let copy = told.copy()?;
-    *remembered = Some(Remembered::new(value, told));
-    Ok(copy)
 }
 
 /// The collection that an entry of the catalogue is of.
@@ -199,8 +178,10 @@ fn names_at(alloc: Global, entries: &[Entry]) -> Result<Vec<Name>, Refusal>
 impl<D: Disk> Collections<D> {
     /// The value at a key of the tree below a root page.
     fn value_from(&mut self, root: u32, key: &[u8]) -> Result<Option<Vec<u8>>, Refusal>
-        ensures { ReadsBelow D.history root IsNothing
+        ensures reads { ReadsBelow D.history root IsNothing
             (λ now asked. IsInTree (IsValueAt key.now) now) result self.old self.new }
+        ensures same { KeepsWord (disk_history D.history self.new)
+            → IsSame (pages_of D.history self.old) (pages_of D.history self.new) }
     {
         if self.pager.is_stopped() {
             return Err(Refusal::StorageFailed);
@@ -270,18 +251,37 @@ impl<D: Disk> Collections<D> {
         }
     }
 
-    /// The number and the indexes of the collection of a name, if there is one.
+    /// The number and the indexes of the collection of a name, by a look at the tree. They are remembered.
+    fn look_up(&mut self, namespace: &str) -> Result<Option<Catalogued>, Refusal>
+        ensures reads { Reads D.history (λ now found. option_map catalogued_of found
+            ≡ option_map catalogued_in (find_collection now namespace.now))
+            result self.old self.new }
+        ensures limits { IfOk result (λ found. IfSome found IsWithinLimits) }
+    {
+        let root = self.root;
+        let key = catalogue_key(self.alloc, namespace)?;
+        let Some(value) = self.value_from(root, &key)? else {
+            return Ok(None);
+        };
+        let told = remember(self.alloc, &mut self.remembered, root, namespace, value)?;
+        Ok(Some(told))
+    }
+
+    /// The number and the indexes of the collection of a name, if there is one. That of the last name is remembered: it is told again
+    /// without a look at the tree, as long as nothing is changed.
     pub fn catalogued(&mut self, namespace: &str) -> Result<Option<Catalogued>, Refusal>
         ensures reads { Reads D.history (λ now found. option_map catalogued_of found
             ≡ option_map catalogued_in (find_collection now namespace.now))
             result self.old self.new }
         ensures limits { IfOk result (λ found. IfSome found IsWithinLimits) }
     {
-        let key = catalogue_key(self.alloc, namespace)?;
-        let Some(value) = self.value_at(&key)? else {
-            return Ok(None);
-        };
-        Ok(Some(told_again(self.alloc, &mut self.remembered, value)?))
+        if self.pager.is_stopped() {
+            return Err(Refusal::StorageFailed);
+        }
+        if let Some(told) = told_again(&self.remembered, self.root, namespace)? {
+            return Ok(Some(told));
+        }
+        self.look_up(namespace)
     }
 
     /// The number of the collection of a name, if there is one.

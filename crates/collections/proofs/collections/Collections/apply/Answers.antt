@@ -3,7 +3,18 @@ use Rattle.path.specs.declared.refusal.Refusal.{Refusal}
 use Rattle.collections.specs.Calls.{Applies}
 use Rattle.collections.specs.State.{State}
 use Rattle.collections.proofs.ApplyLemmas.{applies_done, applies_none, applies_undone, none_of, some_of}
+use Rattle.collections.proofs.RememberingLemmas.{forgotten}
 use Rattle.collections.proofs.collections.Collections.apply.Goals as goal
+
+pub invariant_of-self : goal.invariant_of-self
+invariant_of-self g c =
+    let after : State g.row.D.Denot = record { pager = c.changed_root.new.pager; root = c.in-Ok.root } in
+    (c.self.invariant.0, c.self.invariant.1, forgotten g.D.Disk.history after c.forget_tree.new.remembered c.forget_tree.ensures)
+
+pub invariant_of-self-in-Err : goal.invariant_of-self-in-Err
+invariant_of-self-in-Err g c =
+    let after : State g.row.D.Denot = record { pager = c.undo_to.new.self; root = c.self.inside.root } in
+    (c.self.invariant.0, c.self.invariant.1, forgotten g.D.Disk.history after c.forget_tree.new.remembered c.forget_tree.ensures)
 
 pub returns-then-is_empty : goal.returns-then-is_empty
 returns-then-is_empty g c = applies_none g.D.Disk.history c.args.edits.now c.args.self.now (none_of c.args.edits.now (search rules))

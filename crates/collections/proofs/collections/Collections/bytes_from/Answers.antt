@@ -10,5 +10,5 @@ returns g c =
     let id = c.args.id.now in
     let key = c.deref.result.now in
     below_asked g.D.Disk.history c.args.root (IsPlaceOf number id) (IsInTree (IsValueAt key))
-    (λ now place found. AreBytesAt place found) c.args.self.now c.value_from.new.self c.value_from.result c.value_from.ensures
+    (λ now place found. AreBytesAt place found) c.args.self.now c.value_from.new.self c.value_from.result c.value_from.ensures.reads
     (λ now place found at p. bytes_there now number id key (c.deref.ensures.value ∙ c.in_ok-key.ensures) place found at p)

@@ -5,7 +5,13 @@ use Rattle.collections.specs.State.{State}
 use Rattle.collections.specs.Versions.{CommitsVersions, pins_of}
 use Rattle.collections.proofs.CommitLemmas.{commits_so}
 use Rattle.collections.proofs.VersionLemmas.{commit_keeps}
+use Rattle.collections.proofs.RememberingLemmas.{forgotten}
 use Rattle.collections.proofs.collections.Collections.commit.Goals as goal
+
+pub invariant_of-self : goal.invariant_of-self
+invariant_of-self g c =
+    let after : State g.row.D.Denot = record { pager = c.commit.new.self; root = c.self.inside.root } in
+    (c.self.invariant.0, c.self.invariant.1, forgotten g.D.Disk.history after c.forget_tree.new.remembered c.forget_tree.ensures)
 
 pub returns-clause-commits : goal.returns-clause-commits
 returns-clause-commits g c =

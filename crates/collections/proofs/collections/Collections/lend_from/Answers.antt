@@ -8,8 +8,17 @@ use Rattle.collections.specs.Folding.{Lends}
 use Rattle.collections.specs.Reading.{IsInTree}
 use Rattle.collections.specs.State.{State}
 use Rattle.collections.proofs.BelowLemmas.{below_there}
+use Rattle.collections.proofs.RememberingLemmas.{kept_reading}
 use Rattle.collections.proofs.collections.Collections.lend_from.Goals as goal
 use Rattle.collections.proofs.collections.Collections.lend_from.Goals.{in-Ok, in-Err}
+
+pub invariant_of-self : goal.invariant_of-self
+invariant_of-self g c =
+    let D = g.row.D.Denot in
+    let i = c.self.inside in
+    let old : State D = record { pager = i.pager; root = i.root } in
+    let new : State D = record { pager = c.lend_below.new.pager; root = i.root } in
+    (c.self.invariant.0, c.self.invariant.1, kept_reading g.D.Disk.history old new c.lend_below.ensures.looks.same i.remembered c.self.invariant.2)
 
 pub returns-clause-reads : goal.returns-clause-reads
 returns-clause-reads g c =

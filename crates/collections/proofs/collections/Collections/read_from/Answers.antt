@@ -8,8 +8,17 @@ use Rattle.collections.specs.ReadTexts.{AreTextsRead}
 use Rattle.collections.specs.Reading.{IsInTree}
 use Rattle.collections.specs.State.{State}
 use Rattle.collections.proofs.BelowLemmas.{below_there}
+use Rattle.collections.proofs.RememberingLemmas.{kept_reading}
 use Rattle.collections.proofs.collections.Collections.read_from.Goals as goal
 use Rattle.collections.proofs.collections.Collections.read_from.Goals.{in-Ok, in-Err}
+
+pub invariant_of-self : goal.invariant_of-self
+invariant_of-self g c =
+    let D = g.row.D.Denot in
+    let i = c.self.inside in
+    let old : State D = record { pager = i.pager; root = i.root } in
+    let new : State D = record { pager = c.read_below.new.pager; root = i.root } in
+    (c.self.invariant.0, c.self.invariant.1, kept_reading g.D.Disk.history old new c.read_below.ensures.same i.remembered c.self.invariant.2)
 
 pub returns : goal.returns
 returns g c =

@@ -5,7 +5,13 @@ use Rattle.collections.specs.State.{State}
 use Rattle.collections.specs.Versions.{KeepsSinceStart, pins_of}
 use Rattle.collections.proofs.MarkLemmas.{undoes_so}
 use Rattle.collections.proofs.VersionLemmas.{undone_keeps}
+use Rattle.collections.proofs.RememberingLemmas.{forgotten}
 use Rattle.collections.proofs.collections.Collections.undo.Goals as goal
+
+pub invariant_of-self : goal.invariant_of-self
+invariant_of-self g c =
+    let after : State g.row.D.Denot = record { pager = c.undo_to.new.self; root = c.root-self-inside.result } in
+    (c.self.invariant.0, c.self.invariant.1, forgotten g.D.Disk.history after c.forget_tree.new.remembered c.forget_tree.ensures)
 
 pub returns-clause-undoes : goal.returns-clause-undoes
 returns-clause-undoes g c =

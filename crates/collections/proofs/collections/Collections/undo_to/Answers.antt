@@ -5,7 +5,13 @@ use Rattle.collections.specs.State.{State}
 use Rattle.collections.specs.Versions.{KeepsThen, pins_of}
 use Rattle.collections.proofs.MarkLemmas.{returns_so}
 use Rattle.collections.proofs.VersionLemmas.{older_keep}
+use Rattle.collections.proofs.RememberingLemmas.{forgotten}
 use Rattle.collections.proofs.collections.Collections.undo_to.Goals as goal
+
+pub invariant_of-self : goal.invariant_of-self
+invariant_of-self g c =
+    let after : State g.row.D.Denot = record { pager = c.undo_to.new.self; root = c.args.mark.root } in
+    (c.self.invariant.0, c.self.invariant.1, forgotten g.D.Disk.history after c.forget_tree.new.remembered c.forget_tree.ensures)
 
 pub returns-clause-returns : goal.returns-clause-returns
 returns-clause-returns g c =

@@ -7,5 +7,5 @@ use Rattle.collections.proofs.collections.Collections.value_at.Goals as goal
 pub returns : goal.returns
 returns g c =
     let call = c.value_from-2 in
-    reads_turn g.D.Disk.history (IsInTree (IsValueAt c.args.key.now)) c.args.self.now call.new.self call.result c.value_from.inside.root call.ensures
+    reads_turn g.D.Disk.history (IsInTree (IsValueAt c.args.key.now)) c.args.self.now call.new.self call.result c.value_from.inside.root call.ensures.reads
     (ap (λ (s : State g.row.D.Denot). s.root) c.value_from.view_is)
