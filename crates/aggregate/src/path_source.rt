@@ -7,7 +7,8 @@ ghost use Rattle.aggregate.specs.Found.{found_of};
 ghost use Rattle.aggregate_model.specs.PathValue.{path_value};
 
 use crate::path_value::{Found, of_value, path_value};
-use bson::{Document, NoMemory, RawDoc, Value};
+use bson::{Document, NoMemory, Value};
+use bson_bytes::RawDoc;
 use path::{Part, Path};
 use std::alloc::Global;
 

@@ -10,7 +10,8 @@ ghost use Rattle.pipelines.specs.GroupView.{grouping_of};
 ghost use Rattle.aggregate_model.specs.Taking.{takes, behind_match, groups_first, leading_match, run_behind_groups, KeepsFirst, FirstAreEnough, SufficesTaken, IsEnough};
 ghost use Rattle.pipelines.specs.View.{stage_of, pipeline_of};
 
-use bson::{Document, NoMemory, RawDoc};
+use bson::{Document, NoMemory};
+use bson_bytes::RawDoc;
 use filter::Filter;
 use path::Refusal;
 use pipelines::{Pipeline, Stage};

@@ -8,7 +8,8 @@ ghost use Rattle.index.specs.View.{texts_of};
 ghost use Rattle.asked_documents.specs.ById.{ArePut, TellIdsBeside, one_matches};
 ghost use Rattle.asked_documents.specs.Asking.{AsksMatching};
 
-use bson::{NoMemory, RawDoc};
+use bson::NoMemory;
+use bson_bytes::RawDoc;
 use filter::Filter;
 use std::alloc::Global;
 

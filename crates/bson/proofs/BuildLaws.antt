@@ -17,14 +17,14 @@ use Rattle.bson.specs.EditsLaws.{items_of-push}
 use Rattle.bson.specs.EditsLaws.{pairs_of-set, items_of-set, pairs_of-remove, items_of-remove, pair_at-pairs_of, item_at-items_of}
 use Rattle.bson.specs.Edits.{pairs_len, items_len, place, PushFault, SetFault, ReplaceFault, Refused, pair_at, item_at, with_value, with_item, without_pair}
 use Rattle.bson.specs.Edits.{without_item}
-use Rattle.bson.specs.Decoding.{stands_in}
+use Rattle.bson.specs.Lookup.{stands_in}
 use Rattle.bson.specs.declared.value.Pair.{Pair}
 use Rattle.bson.specs.declared.value.Value.{Value}
 use Rattle.bson.specs.declared.fault.BuildFault.{BuildFault}
 use Rattle.bson.specs.declared.fault.BuildFault.TheVariants as builds
-use Rattle.bson.proofs.FrameLaws.{or_false, NoZero-take}
-use Rattle.bson.proofs.PairLaws.{bytes_eq-ne, ne-bytes_eq}
-use Rattle.bson.proofs.ReadLoopLaws.{pairs_levels-push, items_levels-push}
+use Rattle.bson.proofs.PushLaws.{or_false, NoZero-take}
+use Rattle.bson.proofs.PushLaws.{bytes_eq-ne, ne-bytes_eq}
+use Rattle.bson.proofs.PushLaws.{pairs_levels-push, items_levels-push}
 
 -- ---- names
 

@@ -22,7 +22,7 @@ use Rattle.bson.specs.declared.value.Pair.{Pair}
 use Rattle.bson.specs.declared.value.Value.{Value}
 use Rattle.bson.proofs.BuildLaws.{one_more, pairs_len-is, pairs_set, pair_there, HoldsDocument-edit}
 use Rattle.bson.proofs.DepthLaws.{pairs_at-append, pairs_at-with_value, pairs_at-there, pairs_at-most}
-use Rattle.bson.proofs.PairLaws.{bytes_eq-ne}
+use Rattle.bson.proofs.PushLaws.{bytes_eq-ne}
 
 -- ---- places after an edit
 

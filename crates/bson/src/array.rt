@@ -4,7 +4,7 @@ ghost use Rattle.std.specs.Prelude.{◌≡◌, ◌==◌, ◌+◌, ◌<◌, Some,
 ghost use Rattle.bson.specs.Tree.{no_items, item, append_items};
 ghost use Rattle.bson.specs.Edits.{items_len, item_at, with_item, without_item, ReplaceFault, GrowFault};
 ghost use Rattle.bson.specs.View.{tree, items_of};
-ghost use Rattle.bson.specs.Lawful.{IsArray, items_levels};
+ghost use Rattle.bson.specs.Lawful.{IsArray, HoldsArray, items_levels};
 
 use crate::MOST_LEVELS;
 use crate::fault::BuildFault;
@@ -66,6 +66,14 @@ impl Array {
         ensures { result ≡ items_of items.items }
     {
         let levels = deepest(&items);
+        Array::from_counted(items, levels)
+    }
+
+    /// The array of these items, which nest as deep as is said: for who has counted it.
+    pub fn from_counted(items: Vec<Value>, levels: u32) -> Array
+        requires { HoldsArray levels (items_of items.items) }
+        ensures { result ≡ items_of items.items }
+    {
         Array {
             items,
             nesting: Nesting::Plain { levels, edits: 0 },

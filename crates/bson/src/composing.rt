@@ -1,17 +1,12 @@
 //! A document's bytes written piece by piece, for who need not build the document (BSON 1.1, bsonspec.org).
 
 ghost use Rattle.std.specs.Prelude.{◌≡◌, ◌+◌, ◌<◌, ◌≤◌, ◌++◌, ◌∷◌, [], length, take, drop, IfOk, OnOk, IsErrOf};
-ghost use Rattle.bson.specs.Tree.{text};
 ghost use Rattle.bson.specs.Kinds.{kind_byte};
-ghost use Rattle.bson.specs.View.{tree};
 ghost use Rattle.bson.specs.Limits.{message_limit};
-ghost use Rattle.bson.specs.Spelling.{scalar_bytes, tree_bytes, frame_of};
-ghost use Rattle.bson.specs.Writing.{Puts};
+ghost use Rattle.bson.specs.Spelling.{frame_of};
 
 use crate::fault::{EncodeFault, NoMemory};
 use crate::kind::Kind;
-use crate::scalars;
-use crate::value::Value;
 use crate::writing::{fill_length, put_name};
 
 /// Begins a document or an array behind what stands in `out`, and says where. Its elements follow, then `end_frame`.
@@ -43,18 +38,4 @@ pub fn put_head(out: &mut Vec<u8>, kind: Kind, name: &str) -> Result<(), NoMemor
         (out.new.items ≡ out.old.items ++ (kind_byte kind ∷ (name.now ++ 0 ∷ []))) }
 {
     put_name(out, kind.type_byte(), name)
-}
-
-/// Puts the bytes of a string behind what stands in `out`, as the value of an element.
-pub fn put_string(out: &mut Vec<u8>, string: &str) -> Result<(), EncodeFault>
-    ensures { Puts (scalar_bytes (text string.now)) out.old.items out.new.items result }
-{
-    scalars::put_text(out, string)
-}
-
-/// Puts the bytes of a value behind what stands in `out`.
-pub fn put_value(out: &mut Vec<u8>, value: &Value) -> Result<(), EncodeFault>
-    ensures { Puts (tree_bytes (tree value.now)) out.old.items out.new.items result }
-{
-    crate::writing::put_value(out, value)
 }

@@ -10,8 +10,7 @@ ghost use Rattle.bson.specs.Lawful.{IsDocument, HoldsDocument, pairs_levels};
 use crate::MOST_LEVELS;
 use crate::beside::{Beside, deepest, deepest_after};
 use crate::fault::BuildFault;
-use crate::frames::first_zero;
-use crate::names::Names;
+use crate::names::{Names, first_zero};
 use crate::text::Text;
 use crate::value::{Document, Pair, Value};
 use std::alloc::Global;
@@ -145,6 +144,14 @@ impl Document {
         ensures { result ≡ pairs_of pairs.items }
     {
         let levels = deepest(&pairs);
+        Document::from_counted(pairs, levels)
+    }
+
+    /// The document of these pairs, whose values nest as deep as is said: for who has counted it.
+    pub fn from_counted(pairs: Vec<Pair>, levels: u32) -> Document
+        requires { HoldsDocument levels (pairs_of pairs.items) }
+        ensures { result ≡ pairs_of pairs.items }
+    {
         Document {
             pairs,
             beside: Beside::Plain { levels, edits: 0 },
@@ -159,10 +166,7 @@ impl Document {
         ensures fault { IfErr result (λ e. Refused (pairs_of pairs.items) e) }
     {
         let levels = check_all(alloc, &pairs)?;
-        Ok(Document {
-            pairs,
-            beside: Beside::Plain { levels, edits: 0 },
-        })
+        Ok(Document::from_counted(pairs, levels))
     }
 
     /// Adds a pair at the end, in the time of `position`. An error leaves the document as it was; it is the

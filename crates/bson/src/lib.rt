@@ -1,22 +1,17 @@
-//! Documents of BSON 1.1 (bsonspec.org): values, building, reading and writing.
+//! Documents of BSON 1.1 (bsonspec.org): values, building and writing.
 //!
 //! `value` has the types and what contracts see of them, `document` and `array` the building, over what `beside`
-//! and `nesting` keep, `copying` copies; `frames` and `scalars` the front of bytes, `reading` and `writing` all.
+//! and `nesting` keep, `copying` copies; `scalars` and `writing` give the bytes. The crate `bson_bytes` reads them.
 #![tactic(auto)]
 
 mod array;
 mod beside;
 mod binary;
-mod checking;
 mod composing;
 mod copying;
-mod decoding;
 mod depths;
-mod distinct;
 mod document;
-mod elements;
 mod fault;
-mod frames;
 mod kind;
 pub mod laws;
 mod names;
@@ -24,30 +19,24 @@ mod nesting;
 mod numbers;
 mod object_id;
 mod overview;
-mod raw;
 mod raw_scalar;
 mod scalars;
 mod sizing;
-mod spelled;
 mod text;
 mod value;
 mod writing;
 
 pub use binary::{Binary, Bytes, Subtype};
-pub use composing::{begin_frame, end_frame, put_head, put_string, put_value};
-pub use decoding::{decode, decode_inner};
-pub use distinct::{NamedParts, count_distinct};
-pub use fault::{BsonFault, BuildFault, EncodeFault, NoMemory};
-pub use frames::read_name;
+pub use composing::{begin_frame, end_frame, put_head};
+pub use fault::{BuildFault, EncodeFault, NoMemory};
 pub use kind::Kind;
-pub use names::Names;
+pub use names::{Names, first_zero};
 pub use object_id::ObjectId;
-pub use raw::{RawDoc, RawValue};
 pub use raw_scalar::RawScalar;
-pub use spelled::SpelledDocument;
+pub use scalars::put_string;
 pub use text::Text;
 pub use value::{Array, Document, Pair, Value};
-pub use writing::{encode, encode_onto};
+pub use writing::{encode, encode_onto, put_value};
 
 /// The most levels to which documents and arrays nest, the top document among them.
 pub const MOST_LEVELS: u32 = 100;

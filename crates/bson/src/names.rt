@@ -1,9 +1,9 @@
 //! Names that stood before.
 
-ghost use Rattle.std.specs.Prelude.{◌≡◌, ◌||◌, ◌≤◌, ℕ, List, [], true, false, not, map, IfOk, OnErr};
+ghost use Rattle.std.specs.Prelude.{◌≡◌, ◌==◌, ◌||◌, ◌≤◌, ℕ, List, [], true, false, not, map, position, IfOk, OnErr};
 ghost use Rattle.std.specs.Str.{bytes_eq};
 ghost use Rattle.bson.specs.View.{names_of};
-ghost use Rattle.bson.specs.Decoding.{stands_in};
+ghost use Rattle.bson.specs.Lookup.{stands_in};
 
 use crate::fault::NoMemory;
 use crate::value::Pair;
@@ -94,4 +94,11 @@ fn is_among(names: &[&str], name: &str) -> bool
         }
     }
     false
+}
+
+/// Where the first zero is, which ends a name.
+pub fn first_zero(bytes: &[u8]) -> Option<usize>
+    ensures { result ≡ position (λ b. b == 0) bytes.now }
+{
+    bytes.iter().position(|b| *b == 0)
 }

@@ -37,9 +37,10 @@ pub(crate) fn fill_length(out: &mut Vec<u8>, start: usize) -> Result<(), EncodeF
     Ok(())
 }
 
+/// Puts the bytes of a value behind what stands in `out`.
 #[cycle(writing)]
 #[tactic(auto, unfolding(crate::specs::Spelling::tree_bytes))]
-pub(crate) fn put_value(out: &mut Vec<u8>, value: &Value) -> Result<(), EncodeFault>
+pub fn put_value(out: &mut Vec<u8>, value: &Value) -> Result<(), EncodeFault>
     ensures puts { Puts (tree_bytes (tree value.now)) out.old.items out.new.items result }
     ensures front { IsFront out.old.items out.new.items }
 {

@@ -7,7 +7,8 @@ ghost use Rattle.index.specs.KeyTexts.{ascending_set};
 ghost use Rattle.index.specs.View.{texts_of};
 ghost use Rattle.value_order.specs.KeyText.{tree_text};
 
-use bson::{NoMemory, RawDoc};
+use bson::NoMemory;
+use bson_bytes::RawDoc;
 use planner::ascending;
 use std::alloc::Global;
 use std::marker::Model;

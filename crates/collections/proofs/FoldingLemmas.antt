@@ -7,7 +7,7 @@ use Rattle.std.proofs.lemmas.List.{map-append}
 use Rattle.std.proofs.lemmas.List.Elements.{All-cons, All-filter, All-head, All-nil, All-tail}
 use Rattle.bson.specs.Spelling.{Spells, frame_of, pairs_bytes}
 use Rattle.bson.specs.Tree.{Pairs}
-use Rattle.bson.proofs.RawLaws.{document_spelled-is}
+use Rattle.bson_bytes.proofs.RawLaws.{document_spelled-is}
 use Rattle.page.specs.History.{History}
 use Rattle.value_order.specs.KeyText.{tree_text}
 use Rattle.tree_model.specs.Calls.{IsAnswer, Yields}

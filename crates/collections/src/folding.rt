@@ -2,7 +2,7 @@
 
 ghost use Rattle.std.specs.Prelude.{◌≡◌, ◌++◌, ◌∷◌, [], true, List, IfErr, IfOk, IfSome, OnOk, Some, None};
 ghost use Rattle.std.specs.Option.{option_map};
-ghost use Rattle.bson.specs.Raw.{document_spelled};
+ghost use Rattle.bson_bytes.specs.Raw.{document_spelled};
 ghost use Rattle.bson.specs.Spelling.{frame_of, pairs_bytes};
 ghost use Rattle.bson.specs.Tree.{Pairs};
 ghost use Rattle.btree.specs.Fold.{HasTaken as HasTakenEntries, between};
@@ -13,7 +13,8 @@ ghost use Rattle.collections.specs.Reading.{IsInTree, IsNumbered, LooksUp, Reads
 
 use crate::applying::refusal_of;
 use crate::collections::Collections;
-use bson::{NoMemory, RawDoc};
+use bson::NoMemory;
+use bson_bytes::RawDoc;
 use btree::{Bounds, Fold, fold_entries};
 use entries::{document_key, first_key};
 use page::Disk;

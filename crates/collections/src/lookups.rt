@@ -19,7 +19,8 @@ ghost use Rattle.collections.specs.View.{disk_history, pages_of};
 use crate::applying::refusal_of;
 use crate::collections::Collections;
 use crate::remembered::{remember, told_again};
-use bson::{Document, SpelledDocument};
+use bson::Document;
+use bson_bytes::SpelledDocument;
 use btree::{Batch, Entry, Range, get, scan};
 use entries::{
     Catalogued, catalogue_key, catalogue_parts, document_in, document_key, first_key, namespace_in,

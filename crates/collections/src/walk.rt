@@ -6,7 +6,8 @@ ghost use Rattle.collections.specs.Walk.{BeginsWalk, GoesOnWalking, HasNext, IsW
 
 use crate::collections::Collections;
 use crate::lookups::{documents_of, spelled_of};
-use bson::{Document, NoMemory, SpelledDocument};
+use bson::{Document, NoMemory};
+use bson_bytes::SpelledDocument;
 use btree::{Entry, Range};
 use entries::first_key;
 use page::Disk;

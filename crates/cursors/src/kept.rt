@@ -7,7 +7,8 @@ ghost use Rattle.database_model.specs.Lawful.{IsWithin};
 ghost use Rattle.database_model.specs.Refusals.{ok_reply};
 ghost use Rattle.replies.specs.View.{batch_name, IsSendable};
 
-use bson::{NoMemory, SpelledDocument};
+use bson::NoMemory;
+use bson_bytes::SpelledDocument;
 use projection::Projection;
 use replies::{BatchKind, batch_reply};
 use std::alloc::Global;

@@ -13,7 +13,8 @@ ghost use Rattle.cursors.specs.View.{rest_in, walk_in};
 
 use crate::ending::Ends;
 use crate::source::Source;
-use bson::{NoMemory, SpelledDocument};
+use bson::NoMemory;
+use bson_bytes::SpelledDocument;
 use pager::Version;
 use replies::{BatchKind, ConnId};
 use std::alloc::Global;

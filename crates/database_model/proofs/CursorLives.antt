@@ -7,7 +7,7 @@ use Rattle.std.proofs.lemmas.Bool.Decides.{nat_tests}
 use Rattle.std.proofs.lemmas.List.{take_all, take-append-drop}
 use Rattle.std.proofs.lemmas.List.Quantifiers.{position-Some}
 use Rattle.bson.specs.Tree.{Pairs, pair, no_pairs}
-use Rattle.bson.specs.declared.fault.BsonFault.{BsonFault}
+use Rattle.bson_bytes.specs.declared.fault.BsonFault.{BsonFault}
 use Rattle.outcome.specs.Outcome.{◌>>=◌, unless, or_refused}
 use Rattle.path.specs.declared.refusal.Refusal.{Refusal}
 use Rattle.path.specs.declared.refusal.Refusal.TheVariants as refusals

@@ -3,7 +3,7 @@
 -- command of the turn opened, advanced or killed, with what they had.
 use Rattle.std.specs.Prelude.{◌≡◌, ◌⊎◌, ℕ, true, List, [], ◌∷◌, Result}
 use Rattle.bson.specs.Tree.{Pairs}
-use Rattle.bson.specs.declared.fault.BsonFault.{BsonFault}
+use Rattle.bson_bytes.specs.declared.fault.BsonFault.{BsonFault}
 use Rattle.database_model.specs.World.{World, Cursor, are_untouched, after_undo}
 use Rattle.entries.specs.State.{Collection}
 use Rattle.database_model.specs.Step.{step}

@@ -4,7 +4,7 @@ use Rattle.std.specs.Prelude.{◌≡◌, ◌⊎◌, ℕ, suc, ◌<◌, ◌==◌,
 use Rattle.std.specs.Prelude.{[], ◌∷◌, ◌++◌, take, Result, Ok, Err}
 use Rattle.std.specs.List.{filter, position}
 use Rattle.bson.specs.Tree.{Pairs}
-use Rattle.bson.specs.declared.fault.BsonFault.{BsonFault}
+use Rattle.bson_bytes.specs.declared.fault.BsonFault.{BsonFault}
 use Rattle.path.specs.declared.refusal.Refusal.{Refusal}
 use Rattle.command_model.specs.Command.{Command, get_more, command_of}
 use Rattle.command_model.specs.GetMore.{GetMore}

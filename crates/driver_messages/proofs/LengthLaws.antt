@@ -7,10 +7,10 @@ use Rattle.std.specs.Fmt.{decimal}
 use Rattle.std.proofs.lemmas.Bool.Decides.{nat_tests}
 use Rattle.std.proofs.lemmas.List.{length-take, length-drop, length-append}
 use Rattle.outcome.specs.Outcome.{unless}
-use Rattle.bson.specs.Raw.{number_at}
-use Rattle.bson.specs.Decoding.{name_at, kind_of, zero_at}
-use Rattle.bson.specs.declared.fault.BsonFault.{BsonFault}
-use Rattle.bson.specs.declared.fault.BsonFault.TheVariants as faults
+use Rattle.bson_bytes.specs.Raw.{number_at}
+use Rattle.bson_bytes.specs.Decoding.{name_at, kind_of, zero_at}
+use Rattle.bson_bytes.specs.declared.fault.BsonFault.{BsonFault}
+use Rattle.bson_bytes.specs.declared.fault.BsonFault.TheVariants as faults
 use Rattle.bson.specs.declared.kind.Kind.{Kind}
 use Rattle.bson.specs.declared.kind.Kind.TheVariants as kinds
 use Rattle.driver_messages.specs.Laws.{CommandKeepsLength, KeepsLength}

@@ -4,7 +4,7 @@ use Rattle.std.specs.Prelude.{◌==◌, is_some}
 use Rattle.std.specs.Option.{option_or}
 use Rattle.std.specs.Fmt.{decimal}
 use Rattle.std.proofs.lemmas.Bool.Decides.{nat_tests}
-use Rattle.bson.specs.Raw.{number_at}
+use Rattle.bson_bytes.specs.Raw.{number_at}
 use Rattle.driver_messages.specs.Seeking.{foreign_in, in_documents, in_section, in_sections}
 use Rattle.driver_messages.specs.declared.foreign.Foreign.{Foreign}
 

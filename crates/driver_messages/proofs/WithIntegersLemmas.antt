@@ -4,7 +4,7 @@ use Rattle.std.proofs.Common.{ℤ, true, false}
 use Rattle.std.specs.Fmt.{decimal}
 use Rattle.std.specs.Prelude.{◌==◌}
 use Rattle.std.proofs.lemmas.Bool.Decides.{nat_tests}
-use Rattle.bson.specs.Raw.{number_at}
+use Rattle.bson_bytes.specs.Raw.{number_at}
 use Rattle.driver_messages.specs.Seeking.{Place}
 use Rattle.bson.specs.Spelling.{element}
 use Rattle.driver_messages.specs.WithIntegers.{Passed, kept, integer, passed, int64_element, written}

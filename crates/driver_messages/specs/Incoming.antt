@@ -7,10 +7,10 @@ use Rattle.std.specs.Prelude.{Err}
 use Rattle.std.specs.Str.{bytes_eq}
 use Rattle.outcome.specs.Outcome.{◌>>=◌, unless, Fails}
 use Rattle.bson.specs.Tree.{Pairs}
-use Rattle.bson.specs.Decoding.{name_at, document_at}
-use Rattle.bson.specs.Raw.{only_document}
-use Rattle.bson.specs.declared.fault.BsonFault.{BsonFault}
-use Rattle.bson.specs.declared.fault.BsonFault.TheVariants as bson_faults
+use Rattle.bson_bytes.specs.Decoding.{name_at, document_at}
+use Rattle.bson_bytes.specs.Raw.{only_document}
+use Rattle.bson_bytes.specs.declared.fault.BsonFault.{BsonFault}
+use Rattle.bson_bytes.specs.declared.fault.BsonFault.TheVariants as bson_faults
 use Rattle.op_msg.specs.Frame.{Frame, front, number_at, is_no_length}
 use Rattle.op_msg.specs.Request.{body_of}
 use Rattle.op_msg.specs.declared.fault.FrameFault.{FrameFault}

@@ -5,9 +5,9 @@ use Rattle.std.specs.Prelude.{ℕ, zero, suc, ◌+◌, ◌-◌, ◌==◌, if◌t
 use Rattle.std.specs.Prelude.{length, take, drop, Option, Some, None, Result, Ok, Err}
 use Rattle.std.specs.Option.{option_or, option_map}
 use Rattle.std.specs.Fmt.{decimal}
-use Rattle.bson.specs.Raw.{number_at, len_at}
-use Rattle.bson.specs.Decoding.{name_at, kind_of}
-use Rattle.bson.specs.declared.fault.BsonFault.{BsonFault}
+use Rattle.bson_bytes.specs.Raw.{number_at, len_at}
+use Rattle.bson_bytes.specs.Decoding.{name_at, kind_of}
+use Rattle.bson_bytes.specs.declared.fault.BsonFault.{BsonFault}
 use Rattle.bson.specs.declared.kind.Kind.{Kind}
 use Rattle.bson.specs.declared.kind.Kind.TheVariants as kinds
 use Rattle.driver_messages.specs.ForeignTypes.{foreign_of}

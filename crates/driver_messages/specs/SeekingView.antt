@@ -1,6 +1,6 @@
 -- What functions that seek return, beside what the definitions give.
 use Rattle.std.specs.Prelude.{Option, Some, None, Result, Ok, Err}
-use Rattle.bson.specs.declared.fault.BsonFault.{BsonFault}
+use Rattle.bson_bytes.specs.declared.fault.BsonFault.{BsonFault}
 use Rattle.bson.specs.declared.kind.Kind.{Kind}
 use Rattle.driver_messages.specs.Seeking.{Place}
 use Rattle.driver_messages.specs.Seeking as spec

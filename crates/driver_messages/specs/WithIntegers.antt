@@ -5,10 +5,10 @@ use Rattle.std.specs.Prelude.{ℕ, ℤ, zero, suc, ◌+◌, ◌==◌, if◌then�
 use Rattle.std.specs.Prelude.{length, take, drop, Option, Some, None, Result, Ok, Err}
 use Rattle.std.specs.Fmt.{decimal}
 use Rattle.std.specs.Int.{w64, to_le_bytes, cast_unsigned}
-use Rattle.bson.specs.Raw.{number_at, len_at}
-use Rattle.bson.specs.Decoding.{name_at, kind_of}
+use Rattle.bson_bytes.specs.Raw.{number_at, len_at}
+use Rattle.bson_bytes.specs.Decoding.{name_at, kind_of}
 use Rattle.bson.specs.Spelling.{element}
-use Rattle.bson.specs.declared.fault.BsonFault.{BsonFault}
+use Rattle.bson_bytes.specs.declared.fault.BsonFault.{BsonFault}
 use Rattle.bson.specs.declared.kind.Kind.{Kind}
 use Rattle.bson.specs.declared.kind.Kind.TheVariants as kinds
 use Rattle.driver_messages.specs.OwnNumbers.{is_own_number}

@@ -7,7 +7,8 @@ ghost use Rattle.driver_messages.specs.WithIntegers.{over_known, over_double, ov
 use crate::place::Place;
 use crate::seeking::{kind_of, value_len};
 use crate::whole_double::integer_at;
-use bson::{Kind, NoMemory, read_name};
+use bson::{Kind, NoMemory};
+use bson_bytes::read_name;
 
 /// What stands at the front of what is left of a document.
 #[derive(Clone, Copy)]

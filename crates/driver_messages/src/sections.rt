@@ -1,15 +1,16 @@
 //! The first value of a type that the database doesn't have, in the sections of a message.
 
 ghost use Rattle.std.specs.Prelude.{◌≡◌, [], ◌∷◌, take, drop, length, IfOk};
-ghost use Rattle.bson.specs.Raw.{number_at};
-ghost use Rattle.bson.specs.Decoding.{name_at};
+ghost use Rattle.bson_bytes.specs.Raw.{number_at};
+ghost use Rattle.bson_bytes.specs.Decoding.{name_at};
 ghost use Rattle.std.specs.Fmt.{decimal};
 ghost use Rattle.driver_messages.specs.Seeking.{foreign_in, in_documents, in_sequence, in_section, in_sections, foreign_in_sections};
 
 use crate::foreign::Foreign;
 use crate::place::Place;
 use crate::seeking::{foreign_in, number_at};
-use bson::{NoMemory, read_name};
+use bson::NoMemory;
+use bson_bytes::read_name;
 use itoa::Buffer;
 use std::alloc::Global;
 

@@ -1,15 +1,16 @@
 //! The first value of a type that the database doesn't have.
 
 ghost use Rattle.std.specs.Prelude.{◌≡◌, ◌<◌, ◌^◌, drop, IfOk, option_map};
-ghost use Rattle.bson.specs.Raw.{number_at, len_at};
-ghost use Rattle.bson.specs.Decoding.{name_at, kind_of};
+ghost use Rattle.bson_bytes.specs.Raw.{number_at, len_at};
+ghost use Rattle.bson_bytes.specs.Decoding.{name_at, kind_of};
 ghost use Rattle.driver_messages.specs.ForeignTypes.{foreign_of};
 ghost use Rattle.driver_messages.specs.Seeking.{past, past_known, past_value, step, seek, foreign_in};
 ghost use Rattle.driver_messages.specs.SeekingView.{seek_of, kind_or_none};
 
 use crate::foreign::{Foreign, ForeignType, foreign_of};
 use crate::place::Place;
-use bson::{Kind, NoMemory, read_name};
+use bson::{Kind, NoMemory};
+use bson_bytes::read_name;
 use std::alloc::Global;
 
 /// One step of a search.
@@ -35,7 +36,7 @@ pub(crate) fn number_at(bytes: &[u8]) -> usize
 }
 
 /// How many bytes a value of this kind has that begins so.
-#[tactic(auto, unfolding(bson::specs::Raw::len_at))]
+#[tactic(auto, unfolding(bson_bytes::specs::Raw::len_at))]
 pub(crate) fn value_len(kind: Kind, bytes: &[u8]) -> usize
     ensures value { result ≡ len_at kind bytes.now }
     ensures fits { result < 2 ^ 33 }
@@ -53,7 +54,7 @@ pub(crate) fn value_len(kind: Kind, bytes: &[u8]) -> usize
 }
 
 /// The kind that a type byte stands for.
-#[tactic(auto, unfolding(bson::specs::Decoding::kind_of))]
+#[tactic(auto, unfolding(bson_bytes::specs::Decoding::kind_of))]
 pub(crate) fn kind_of(byte: u8) -> Option<Kind>
     ensures { result ≡ kind_or_none (kind_of byte) }
 {

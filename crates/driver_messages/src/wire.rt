@@ -3,9 +3,9 @@
 ghost use Rattle.std.specs.Prelude.{◌≡◌, ◌≤◌, ◌+◌, ℕ, List, length, drop, Result, Ok, IfOk, IfSome};
 ghost use Rattle.outcome.specs.Outcome.{Gives, GivesExactly};
 ghost use Rattle.bson.specs.Tree.{Pairs};
-ghost use Rattle.bson.specs.Decoding.{document_at};
-ghost use Rattle.bson.specs.Raw.{only_document};
-ghost use Rattle.bson.specs.declared.fault.BsonFault.{BsonFault};
+ghost use Rattle.bson_bytes.specs.Decoding.{document_at};
+ghost use Rattle.bson_bytes.specs.Raw.{only_document};
+ghost use Rattle.bson_bytes.specs.declared.fault.BsonFault.{BsonFault};
 ghost use Rattle.op_msg.specs.Frame.{Frame, number_at};
 ghost use Rattle.op_msg.specs.Request.{IsRequest};
 ghost use Rattle.driver_messages.specs.Incoming.{is_no_opcode, whole_at, named_or_invalid, body_fault, body_or_fault, message_in, as_sent, has_foreign, read_message, form_of, document_sent, document_again, query_of, read_query, read_whole};
@@ -18,7 +18,8 @@ use crate::sections::foreign_in_sections;
 use crate::seeking::foreign_in;
 use crate::stream_fault::StreamFault;
 use crate::with_integers::{command_with_integers, with_integers};
-use bson::{BsonFault, Document, MESSAGE_LIMIT, NoMemory, decode, read_name};
+use bson::{Document, MESSAGE_LIMIT, NoMemory};
+use bson_bytes::{BsonFault, decode, read_name};
 use op_msg::{Request, request_at_front};
 use std::alloc::Global;
 

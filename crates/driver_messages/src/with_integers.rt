@@ -3,13 +3,14 @@
 ghost use Rattle.std.specs.Prelude.{◌≡◌, ◌++◌, ◌∷◌, [], take, drop, IfOk, OnOk};
 ghost use Rattle.std.specs.Fmt.{decimal};
 ghost use Rattle.driver_messages.specs.WithIntegers.{int64_element, elements_with, document_with, documents_with, sequence_with, section_with, sections_with, with_integers};
-ghost use Rattle.bson.specs.Decoding.{name_at};
+ghost use Rattle.bson_bytes.specs.Decoding.{name_at};
 
 use crate::passing::{Passed, pass};
 use crate::place::Place;
 use crate::sections::split_part;
 use crate::seeking::behind;
-use bson::{Kind, NoMemory, put_head, read_name};
+use bson::{Kind, NoMemory, put_head};
+use bson_bytes::read_name;
 use itoa::Buffer;
 use std::alloc::Global;
 

@@ -9,7 +9,7 @@ use Rattle.std.proofs.lemmas.List.Quantifiers.{position-Some}
 use Rattle.std.specs.List.{filter, position}
 use Rattle.bson.specs.Tree.{Pairs, pair, no_pairs}
 use Rattle.bson.specs.Spelling.{items_bytes}
-use Rattle.bson.specs.declared.fault.BsonFault.{BsonFault}
+use Rattle.bson_bytes.specs.declared.fault.BsonFault.{BsonFault}
 use Rattle.database_model.specs.World.{World, Cursor, collection_of, unused, number_or, with_documents, documents_of}
 use Rattle.entries.specs.State.{Collection, find_collection, put_collection}
 use Rattle.outcome.specs.Outcome.{◌>>=◌, unless, or_refused}

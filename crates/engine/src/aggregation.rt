@@ -16,7 +16,8 @@ ghost use Rattle.database_model.specs.World.{documents_of};
 
 use crate::engine::Engine;
 use aggregate::run;
-use bson::{Document, SpelledDocument};
+use bson::Document;
+use bson_bytes::SpelledDocument;
 use page::Disk;
 use path::Refusal;
 use pipelines::Pipeline;

@@ -19,7 +19,7 @@ ghost use Rattle.replies.specs.View.{projected, IsSendable, Runs};
 
 use crate::engine::Engine;
 use crate::find::{enough, window};
-use bson::SpelledDocument;
+use bson_bytes::SpelledDocument;
 use commands::Query;
 use cursors::Rest;
 use entries::Catalogued;

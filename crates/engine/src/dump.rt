@@ -10,7 +10,7 @@ ghost use Rattle.page.specs.History.{KeepsWord};
 use crate::check_fault::CheckFault;
 use crate::engine::Engine;
 use crate::troubles::{told_fault, troubles_of};
-use bson::SpelledDocument;
+use bson_bytes::SpelledDocument;
 use collections::Walk;
 use page::Disk;
 use walks::BATCH;

@@ -10,7 +10,8 @@ ghost use Rattle.replies.specs.View.{IsSendable, Runs};
 ghost use Rattle.engine.specs.View.{world};
 
 use crate::engine::Engine;
-use bson::{NoMemory, SpelledDocument};
+use bson::NoMemory;
+use bson_bytes::SpelledDocument;
 use commands::Query;
 use page::Disk;
 use path::Refusal;

@@ -8,7 +8,7 @@ ghost use Rattle.replies.specs.View.{IsSendable};
 ghost use Rattle.engine.specs.View.{world};
 
 use crate::engine::Engine;
-use bson::SpelledDocument;
+use bson_bytes::SpelledDocument;
 use page::Disk;
 use path::Refusal;
 use pinned_cursors::give_next;

@@ -14,7 +14,7 @@ ghost use Rattle.replies.specs.View.{IsSendable};
 
 use crate::by_list::all_asked;
 use crate::engine::Engine;
-use bson::SpelledDocument;
+use bson_bytes::SpelledDocument;
 use commands::Query;
 use entries::Catalogued;
 use page::Disk;

@@ -11,7 +11,8 @@ ghost use Rattle.replies.specs.View.{IsSendable};
 ghost use Rattle.engine.specs.View.{world};
 
 use crate::engine::Engine;
-use bson::{Document, NoMemory, SpelledDocument, Value};
+use bson::{Document, NoMemory, Value};
+use bson_bytes::SpelledDocument;
 use index::IndexSpec;
 use page::Disk;
 use path::Refusal;

@@ -19,7 +19,7 @@ ghost use Rattle.replies.specs.View.{IsSendable};
 
 use crate::engine::Engine;
 use asked_documents::DocumentPredicate;
-use bson::SpelledDocument;
+use bson_bytes::SpelledDocument;
 use commands::Query;
 use entries::Catalogued;
 use page::Disk;

@@ -2,7 +2,7 @@
 
 ghost use Rattle.std.specs.Prelude.{◌≡◌, ◌≢◌};
 
-use bson::BsonFault;
+use bson_bytes::BsonFault;
 use path::Refusal;
 
 /// What bytes that are no document are refused with.

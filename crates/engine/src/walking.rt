@@ -16,7 +16,7 @@ ghost use Rattle.replies.specs.View.{IsSendable};
 
 use crate::engine::Engine;
 use crate::find::enough;
-use bson::SpelledDocument;
+use bson_bytes::SpelledDocument;
 use commands::Query;
 use cursors::Rest;
 use entries::Catalogued;

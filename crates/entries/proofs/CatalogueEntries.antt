@@ -12,7 +12,7 @@ use Rattle.bson.specs.Tree.{scalar, int32, text, boolean, document, array, Pairs
 use Rattle.bson.specs.Lawful.{items_levels, NoZero, IsName, IsPairs, IsItems, IsDocument}
 use Rattle.bson.specs.Spelling.{tree_bytes, pairs_bytes, items_bytes, frame_of, Spells as SpellsDocument}
 use Rattle.bson.specs.SizingLaws.{frame_of-length, pairs_size-pair, items_size-item}
-use Rattle.bson.proofs.TreeLaws.{one_spelling}
+use Rattle.bson_bytes.proofs.TreeLaws.{one_spelling}
 use Rattle.path.specs.Parts.{is_empty, begins_with_dollar, path_fault, parts_of}
 use Rattle.path.specs.declared.fault.PathFault.{PathFault}
 use Rattle.path.specs.declared.fault.PathFault.TheVariants as faults

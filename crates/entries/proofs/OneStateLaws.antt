@@ -7,7 +7,7 @@ use Rattle.std.specs.Cmp.Lexicographic.{slice_cmp, nat_list_cmp_total}
 use Rattle.std.specs.declared.cmp.Ordering.TheVariants.{Less}
 use Rattle.bson.specs.Tree.{Pairs}
 use Rattle.bson.specs.Spelling.{frame_of, pairs_bytes, Spells as SpellsDocument}
-use Rattle.bson.proofs.TreeLaws.{one_spelling}
+use Rattle.bson_bytes.proofs.TreeLaws.{one_spelling}
 use Rattle.value_order.specs.Order.{compare}
 use Rattle.value_order.specs.TotalLaws.{compare_total}
 use Rattle.value_order.specs.KeyText.{tree_text}

@@ -10,7 +10,8 @@ ghost use Rattle.entries.specs.State.{words};
 ghost use Rattle.entries.specs.StateEntries.{key_under};
 
 use crate::entry_keys::catalogue_key;
-use bson::{BsonFault, Document, NoMemory, decode};
+use bson::{Document, NoMemory};
+use bson_bytes::{BsonFault, decode};
 use std::alloc::{AllocError, Global};
 
 /// The document that bytes spell, all of them.

@@ -13,7 +13,7 @@ use Rattle.bson.specs.declared.value.Value.{Value}
 use Rattle.bson.specs.Tree.{Tree, document, array, Pairs, no_pairs, pair, append, Items, no_items, item, append_items}
 use Rattle.bson.specs.View.{tree, pairs_of, items_of, names_of}
 use Rattle.bson.specs.Lawful.{levels, pairs_levels, items_levels, NoZero, IsName, Lacks, IsTree, IsDocument, IsArray}
-use Rattle.bson.specs.Decoding.{stands_in}
+use Rattle.bson.specs.Lookup.{stands_in}
 use Rattle.bson.specs.EditPlaces.{pairs_levels-append, items_levels-append}
 use Rattle.bson.specs.EditsLaws.{pairs_of-push, items_of-push, IsDocument-append, IsArray-append}
 use Rattle.ext_json.specs.Tokens.{first, rest, key_at}

@@ -4,7 +4,7 @@ ghost use Rattle.std.specs.Prelude.{◌≡◌, ◌≤◌, ◌||◌, ℕ, List, o
 ghost use Rattle.std.specs.Str.{bytes_eq};
 ghost use Rattle.bson.specs.View.{tree};
 ghost use Rattle.bson.specs.Lawful.{IsName, IsTree, levels, pairs_levels, items_levels};
-ghost use Rattle.bson.specs.Decoding.{stands_in};
+ghost use Rattle.bson.specs.Lookup.{stands_in};
 ghost use Rattle.bson.specs.Tree.{no_pairs, no_items};
 ghost use Rattle.json.specs.Reads.{token_of};
 ghost use Rattle.outcome.specs.Outcome.{Gives};

@@ -1,9 +1,9 @@
 -- What is read of entries that spell a lawful state.
 use Rattle.std.proofs.Common.{◌≡◌, ℕ, List, [], ◌∷◌, map, codes, Option, Some, None, unwrap_or, inl, inr, refl, sym, ◌∙◌, ap, subst}
 use Rattle.bson.specs.Lookup.{lookup}
-use Rattle.bson.specs.Raw.{document_spelled}
+use Rattle.bson_bytes.specs.Raw.{document_spelled}
 use Rattle.bson.specs.Tree.{Pairs}
-use Rattle.bson.proofs.RawLaws.{document_spelled-is}
+use Rattle.bson_bytes.proofs.RawLaws.{document_spelled-is}
 use Rattle.tree_model.specs.Keys.{Entry}
 use Rattle.index.specs.Definition.{Definition}
 use Rattle.entries.specs.LawfulState.{AreNamedApart, IsStorable}

@@ -4,7 +4,7 @@
 use Rattle.std.specs.Prelude.{ℕ, pos, false, List, [], map, drop, codes, Option, Some, unwrap_or}
 use Rattle.std.specs.Prelude.{if◌then◌else◌}
 use Rattle.bson.specs.Lookup.{lookup}
-use Rattle.bson.specs.Raw.{document_spelled}
+use Rattle.bson_bytes.specs.Raw.{document_spelled}
 use Rattle.bson.specs.Tree.{Tree, scalar, int32, array, Pairs}
 use Rattle.tree_model.specs.Keys.{Entry}
 use Rattle.entries.specs.CatalogueReading.{definitions_in}

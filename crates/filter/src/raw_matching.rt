@@ -11,7 +11,8 @@ ghost use Rattle.filter.specs.View.{condition_of};
 
 use crate::condition::{Condition, Filter};
 use crate::matching::{all_hold_along, holds_of_scalar};
-use bson::{NoMemory, RawDoc, RawScalar};
+use bson::{NoMemory, RawScalar};
+use bson_bytes::RawDoc;
 use path::{Part, Path};
 use std::alloc::Global;
 

@@ -5,8 +5,8 @@ use Rattle.bson.specs.Limits.{message_limit}
 use Rattle.bson.specs.Spelling.{frame_of, pairs_bytes}
 use Rattle.bson.specs.Lawful.{IsDocument}
 use Rattle.bson.specs.Tree.{Pairs}
-use Rattle.bson.specs.Decoding.{document_at}
-use Rattle.bson.proofs.TreeLaws.{document_again}
+use Rattle.bson_bytes.specs.Decoding.{document_at}
+use Rattle.bson_bytes.proofs.TreeLaws.{document_again}
 use Rattle.op_msg.specs.Request.{document_alone, document_in}
 use Rattle.drivers.specs.Answering.{kill_command}
 use Rattle.server.specs.ServerState.{ServerState}

@@ -4,7 +4,8 @@ ghost use Rattle.std.specs.Prelude.{map};
 ghost use Rattle.database_model.specs.Merging.{is_deleted};
 
 use asked_documents::DocumentPredicate;
-use bson::{NoMemory, RawDoc};
+use bson::NoMemory;
+use bson_bytes::RawDoc;
 use commands::Deletion;
 use filter::Filter;
 use statements::is_deleted;

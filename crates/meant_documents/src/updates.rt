@@ -9,7 +9,8 @@ ghost use Rattle.index.specs.View.{texts_of};
 ghost use Rattle.asked_documents.specs.ById.{ArePut, TellIds};
 
 use asked_documents::DocumentPredicate;
-use bson::{Document, NoMemory, RawDoc};
+use bson::{Document, NoMemory};
+use bson_bytes::RawDoc;
 use candidate_ids::put_id;
 use commands::UpdateStatement;
 use filter::Filter;

@@ -4,19 +4,19 @@ use Rattle.std.proofs.Common.{Ok, Err, refl, ap, subst, ◌∙◌, arith}
 use Rattle.std.proofs.Common.{length-append, length-take, length-drop}
 use Rattle.std.specs.Prelude.{if◌then◌else◌, ◌||◌, ◌==◌, not, nat_le, nat_lt, is_some}
 use Rattle.std.specs.Str.{is_utf8}
-use Rattle.bson.proofs.FrameLaws.{IsBytes-drop, IsBytes-take}
-use Rattle.bson.proofs.PairLaws.{IsBytes-rest}
-use Rattle.bson.proofs.TreeLaws.{document_takes, value_reads}
+use Rattle.bson_bytes.proofs.FrameLaws.{IsBytes-drop, IsBytes-take}
+use Rattle.bson_bytes.proofs.PairLaws.{IsBytes-rest}
+use Rattle.bson_bytes.proofs.TreeLaws.{document_takes, value_reads}
 use Rattle.bson.specs.Lawful.{IsBytes}
 use Rattle.bson.specs.Limits.{message_limit}
 use Rattle.bson.specs.Lookup.{lookup}
-use Rattle.bson.specs.Decoding.{document_at, value_at, zero_at}
-use Rattle.bson.specs.Decoding as names
+use Rattle.bson_bytes.specs.Decoding.{document_at, value_at, zero_at}
+use Rattle.bson_bytes.specs.Decoding as names
 use Rattle.bson.specs.SizingLaws.{frame_of-length, items_size-item, pairs_size-pair}
 use Rattle.bson.specs.Spelling.{items_bytes, pairs_bytes, tree_bytes}
 use Rattle.bson.specs.Tree.{Tree, scalar, document, array, append, Pairs, no_pairs, pair, Items, no_items, item}
-use Rattle.bson.specs.declared.fault.BsonFault.{BsonFault}
-use Rattle.bson.specs.declared.fault.BsonFault.TheVariants as bson_faults
+use Rattle.bson_bytes.specs.declared.fault.BsonFault.{BsonFault}
+use Rattle.bson_bytes.specs.declared.fault.BsonFault.TheVariants as bson_faults
 use Rattle.bson.specs.declared.kind.Kind.TheVariants as kinds
 use Rattle.outcome.specs.Outcome.{◌>>=◌, unless}
 use Rattle.op_msg.specs.Frame.{body, body_at, body_of_all, bodies_of, each_by, each_from, each_in, Frame, frame_of, front, has_twice, is_more}

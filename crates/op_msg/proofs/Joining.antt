@@ -2,18 +2,19 @@
 use Rattle.std.proofs.Common.{◌≡◌, ◌≢◌, ℕ, ◌≤◌, List, [], ◌∷◌, ◌++◌, map, refl, sym, ap, subst, ◌∙◌, arith}
 use Rattle.std.specs.Prelude.{Result, Ok, Err, Option, Some, None, option_map, is_some, MatchOption, Bool, true, false, not, ◌||◌, if◌then◌else◌}
 use Rattle.std.specs.Str.{bytes_eq}
-use Rattle.bson.proofs.PairLaws.{ne-bytes_eq}
+use Rattle.bson.proofs.PushLaws.{ne-bytes_eq}
 use Rattle.bson.specs.EditPlaces.{append-none, append_items-none, append_items-one}
 use Rattle.bson.specs.EditsLaws.{pairs_of-push, IsDocument-append}
 use Rattle.bson.specs.Lawful.{Lacks, levels, IsName, IsTree, IsArray, IsDocument}
 use Rattle.bson.specs.Lookup.{lookup}
-use Rattle.bson.specs.Decoding.{Read, value_at, stands_in}
+use Rattle.bson.specs.Lookup.{stands_in}
+use Rattle.bson_bytes.specs.Decoding.{Read, value_at}
 use Rattle.bson.specs.View.{tree, pairs_of, names_of}
 use Rattle.bson.specs.declared.value.Pair.{Pair}
 use Rattle.bson.specs.Tree.{Tree, array, Pairs, no_pairs, pair, append, Items, no_items, item, append_items}
-use Rattle.bson.specs.declared.fault.BsonFault.{BsonFault}
+use Rattle.bson_bytes.specs.declared.fault.BsonFault.{BsonFault}
 use Rattle.bson.specs.declared.kind.Kind.TheVariants as kinds
-use Rattle.bson.specs.declared.fault.BsonFault.TheVariants as bson_faults
+use Rattle.bson_bytes.specs.declared.fault.BsonFault.TheVariants as bson_faults
 use Rattle.outcome.specs.Outcome.{◌>>=◌, unless, Fails}
 use Rattle.op_msg.specs.Frame.{Section, Sequence, body, sequence, sequences_of, part_at, each_in, section_at, sections_in}
 use Rattle.op_msg.specs.declared.fault.FrameFault.{FrameFault}

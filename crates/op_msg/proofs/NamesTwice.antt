@@ -4,10 +4,10 @@ use Rattle.std.proofs.Common.{arith, inl, inr}
 use Rattle.std.specs.Str.{bytes_eq}
 use Rattle.std.proofs.lemmas.Bool.{cases_lt}
 use Rattle.std.proofs.lemmas.List.{take-append-drop, length-append, length-take}
-use Rattle.bson.specs.Decoding.{stands_in}
-use Rattle.bson.specs.RawNames.{AreNew}
-use Rattle.bson.proofs.TableLaws.{at_place, cons_is, take_front}
-use Rattle.bson.proofs.PairLaws.{ne-bytes_eq, bytes_eq-ne}
+use Rattle.bson.specs.Lookup.{stands_in}
+use Rattle.bson_bytes.specs.RawNames.{AreNew}
+use Rattle.bson_bytes.proofs.TableLaws.{at_place, cons_is, take_front}
+use Rattle.bson.proofs.PushLaws.{ne-bytes_eq, bytes_eq-ne}
 use Rattle.op_msg.specs.Frame.{has_twice}
 
 abbrev Name : Type 0

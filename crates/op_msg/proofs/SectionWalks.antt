@@ -4,11 +4,12 @@ use Rattle.std.proofs.Common.{length-take}
 use Rattle.std.specs.Prelude.{Bool, true, false, not, ◌||◌, nat_lt, nat_le, if◌then◌else◌, Result, Ok, Err, Some, None}
 use Rattle.std.specs.Str.{is_utf8}
 use Rattle.std.proofs.lemmas.List.Sums.{fails_before_first}
-use Rattle.bson.proofs.FrameLaws.{NoZero-take}
+use Rattle.bson.proofs.PushLaws.{NoZero-take}
 use Rattle.bson.specs.Lawful.{NoZero}
-use Rattle.bson.specs.Decoding.{zero_at, stands_in}
-use Rattle.bson.specs.Decoding as names
-use Rattle.bson.specs.declared.fault.BsonFault.{BsonFault}
+use Rattle.bson.specs.Lookup.{stands_in}
+use Rattle.bson_bytes.specs.Decoding.{zero_at}
+use Rattle.bson_bytes.specs.Decoding as names
+use Rattle.bson_bytes.specs.declared.fault.BsonFault.{BsonFault}
 use Rattle.outcome.specs.Outcome.{◌>>=◌, unless}
 use Rattle.op_msg.specs.Frame.{Part, Sequence, Section, body, sequence, number_at, part_at, or_section, name_at, each_from, each_by, each_in, is_more}
 use Rattle.op_msg.specs.Frame.{sequence_in, body_at, sequence_at, section_at, sections_in, bodies_of, names_of, has_twice, only_of, body_of_all}

@@ -13,9 +13,9 @@ use Rattle.std.specs.Prelude.{Err, Option, Some, None}
 use Rattle.outcome.specs.Outcome.{◌>>=◌, unless}
 use Rattle.std.specs.Int.{w32, from_le_bytes}
 use Rattle.bson.specs.Limits.{message_limit}
-use Rattle.bson.specs.Decoding.{stands_in}
-use Rattle.bson.specs.Decoding as names
-use Rattle.bson.specs.declared.fault.BsonFault.{BsonFault}
+use Rattle.bson.specs.Lookup.{stands_in}
+use Rattle.bson_bytes.specs.Decoding as names
+use Rattle.bson_bytes.specs.declared.fault.BsonFault.{BsonFault}
 use Rattle.op_msg.specs.declared.fault.FrameFault.{FrameFault}
 use Rattle.op_msg.specs.declared.fault.FrameFault.TheVariants as faults
 

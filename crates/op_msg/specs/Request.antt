@@ -7,13 +7,13 @@
 use Rattle.std.specs.Prelude.{◌≡◌, ℕ, ◌+◌, List, [], ◌∷◌, ◌++◌, length, take, drop, Bool, true}
 use Rattle.std.specs.Prelude.{false, Result, Ok, Err, Option, Some, None, is_some}
 use Rattle.std.specs.Int.{w32, to_le_bytes}
-use Rattle.bson.specs.declared.fault.BsonFault.TheVariants as bson_faults
+use Rattle.bson_bytes.specs.declared.fault.BsonFault.TheVariants as bson_faults
 use Rattle.bson.specs.Lookup.{lookup}
 use Rattle.bson.specs.Tree.{array, Pairs, no_pairs, pair, append, Items, no_items, item}
 use Rattle.bson.specs.Spelling.{frame_of, pairs_bytes}
-use Rattle.bson.specs.Decoding.{value_at, document_at}
+use Rattle.bson_bytes.specs.Decoding.{value_at, document_at}
 use Rattle.outcome.specs.Outcome.{◌>>=◌, unless, Gives}
-use Rattle.bson.specs.declared.fault.BsonFault.{BsonFault}
+use Rattle.bson_bytes.specs.declared.fault.BsonFault.{BsonFault}
 use Rattle.bson.specs.declared.kind.Kind.TheVariants as kinds
 use Rattle.op_msg.specs.Frame.{Frame, Sequence}
 use Rattle.op_msg.specs.declared.fault.FrameFault.{FrameFault}

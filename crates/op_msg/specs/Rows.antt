@@ -3,7 +3,7 @@
 use Rattle.std.specs.Prelude.{◌≡◌, ℕ, ◌+◌, Bool, true, false, List, [], ◌∷◌, ◌++◌, length, codes}
 use Rattle.std.specs.Prelude.{Result, Ok, Err, Option, Some}
 use Rattle.bson.specs.Tree.{document, array, no_pairs, pair, no_items, item}
-use Rattle.bson.specs.declared.fault.BsonFault.TheVariants as bson_faults
+use Rattle.bson_bytes.specs.declared.fault.BsonFault.TheVariants as bson_faults
 use Rattle.op_msg.specs.Frame.{Frame, Sequence, front}
 use Rattle.op_msg.specs.Request.{le_32, body_of}
 use Rattle.op_msg.specs.declared.fault.FrameFault.{FrameFault}

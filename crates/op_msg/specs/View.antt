@@ -4,11 +4,12 @@ use Rattle.std.specs.Prelude.{option_map, is_some}
 use Rattle.outcome.specs.Outcome.{◌>>=◌, unless}
 use Rattle.bson.specs.Lawful.{NoZero, IsDocument}
 use Rattle.bson.specs.Lookup.{lookup}
-use Rattle.bson.specs.Decoding.{value_at, stands_in}
+use Rattle.bson.specs.Lookup.{stands_in}
+use Rattle.bson_bytes.specs.Decoding.{value_at}
 use Rattle.bson.specs.Tree.{Items, no_items, item, append_items, Pairs, append}
 use Rattle.bson.specs.View.{pairs_of}
 use Rattle.bson.specs.declared.value.Pair.{Pair}
-use Rattle.bson.specs.declared.fault.BsonFault.{BsonFault}
+use Rattle.bson_bytes.specs.declared.fault.BsonFault.{BsonFault}
 use Rattle.bson.specs.declared.kind.Kind.TheVariants as kinds
 use Rattle.op_msg.specs.Frame.{Frame, Sequence, Section, body, sequence, part_at, each_in}
 use Rattle.op_msg.specs.Frame.{bodies_of, sequences_of, sections_in}

@@ -12,10 +12,8 @@ ghost use Rattle.op_msg.specs.View.{frame_in, sequence_of, section_of, with_docu
 use crate::fault::FrameFault;
 use crate::first_message::{Message, read_front};
 use crate::sections::{Section, Sequence, SequenceNames, read_part, read_section};
-use bson::{
-    Array, BsonFault, BuildFault, Document, NamedParts, Names, Pair, Text, Value, decode,
-    decode_inner,
-};
+use bson::{Array, BuildFault, Document, Names, Pair, Text, Value};
+use bson_bytes::{BsonFault, NamedParts, decode, decode_inner};
 use std::alloc::Global;
 
 /// What a message says of itself before its body is read: its number, and whether it wants no reply.

@@ -3,11 +3,11 @@
 ghost use Rattle.std.specs.Prelude.{◌≡◌, ◌<◌, ◌≤◌, ◌+◌, ◌^◌, ℕ, List, [], ◌∷◌, true, false, length, take};
 ghost use Rattle.op_msg.specs.Frame.{number_at, part_at, name_at, each_in, is_more, sequence_in, section_at, sections_in, names_of, has_twice, body_of_all};
 ghost use Rattle.op_msg.specs.Frame.{Section as Parts};
-ghost use Rattle.bson.specs.Decoding.{stands_in};
+ghost use Rattle.bson.specs.Lookup.{stands_in};
 ghost use Rattle.op_msg.specs.View.{Finds, sequence_of, section_of, body_with};
 
 use crate::fault::FrameFault;
-use bson::{NamedParts, count_distinct};
+use bson_bytes::{NamedParts, count_distinct};
 
 /// A section of kind 1: the name of an array, and its documents, one behind the other.
 #[derive(Clone, Copy)]
@@ -56,7 +56,7 @@ pub(crate) fn read_part(bytes: &[u8]) -> Result<(&[u8], &[u8]), FrameFault>
 fn read_name(bytes: &[u8]) -> Result<(&str, &[u8]), FrameFault>
     ensures { Finds (λ x. (x.0.now, x.1.now)) result (name_at bytes.now) }
 {
-    match bson::read_name(bytes) {
+    match bson_bytes::read_name(bytes) {
         Ok(found) => Ok(found),
         Err(_) => Err(FrameFault::Section),
     }

@@ -4,7 +4,7 @@ use Rattle.std.proofs.Common.{arith, eqb-true, eq-eqb}
 use Rattle.std.specs.Prelude.{IsUtf8, ◌==◌}
 use Rattle.std.specs.List.{AllByRecursion, AllPairs, list_any}
 use Rattle.bson.specs.Spelling.{frame_of, pairs_bytes}
-use Rattle.bson.proofs.TreeLaws.{one_spelling}
+use Rattle.bson_bytes.proofs.TreeLaws.{one_spelling}
 use Rattle.bson.specs.Tree.{Pairs}
 use Rattle.tree_model.specs.Keys.{Entry}
 use Rattle.path.specs.declared.refusal.Refusal.{Refusal}

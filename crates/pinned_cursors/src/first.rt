@@ -8,7 +8,7 @@ ghost use Rattle.pinned_cursors.specs.Opening.{held_walk, way_by};
 ghost use Rattle.replies.specs.View.{IsSendable};
 
 use crate::opening::{ListLeft, open_list};
-use bson::SpelledDocument;
+use bson_bytes::SpelledDocument;
 use collections::Collections;
 use cursors::{Cursors, Rest};
 use page::Disk;

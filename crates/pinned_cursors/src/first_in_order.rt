@@ -9,7 +9,7 @@ ghost use Rattle.replies.specs.View.{IsSendable};
 
 use crate::first::{FirstAsked, FirstGiven};
 use crate::opening::{OrderSoFar, open_order};
-use bson::SpelledDocument;
+use bson_bytes::SpelledDocument;
 use collections::Collections;
 use cursors::{Cursors, Rest};
 use page::Disk;

@@ -7,7 +7,7 @@ ghost use Rattle.pinned_cursors.specs.Batches.{GivesNext};
 ghost use Rattle.replies.specs.View.{IsSendable};
 
 use crate::next_batches::next_batch;
-use bson::SpelledDocument;
+use bson_bytes::SpelledDocument;
 use collections::Collections;
 use cursors::Cursors;
 use page::Disk;

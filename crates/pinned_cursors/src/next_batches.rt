@@ -10,7 +10,7 @@ ghost use Rattle.walks.specs.InOrder.{IsOrderedBatch, IsOrderedIn};
 ghost use Rattle.replies.specs.View.{IsSendable};
 
 use crate::ending::end;
-use bson::SpelledDocument;
+use bson_bytes::SpelledDocument;
 use collections::Collections;
 use cursors::{Cursors, PinnedList, PinnedOrder, PinnedWalk, Source};
 use page::Disk;

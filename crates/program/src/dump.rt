@@ -3,7 +3,7 @@
 ghost use Rattle.server.specs.Durable.{IsSound};
 
 use crate::fault::ProgramFault;
-use bson::SpelledDocument;
+use bson_bytes::SpelledDocument;
 use page::Disk;
 use server::{Core, Walk, dump_line};
 use std::alloc::Global;

@@ -4,7 +4,8 @@ ghost use Rattle.std.specs.Prelude.{◌≡◌, IfOk, IfErr};
 ghost use Rattle.program.specs.InProcess.{Says};
 ghost use Rattle.server.specs.View.{frames_in};
 
-use bson::{Document, decode};
+use bson::Document;
+use bson_bytes::decode;
 use engine::ConnId;
 use op_msg::{FRAME_BYTES, reply};
 use page::Disk;

@@ -12,7 +12,7 @@ ghost use Rattle.asked_documents.specs.Asking.{IsAsked};
 ghost use Rattle.candidate_ids.specs.ByIndex.{IsRangeOf};
 ghost use Rattle.queries.specs.ByOrder.{AreFirstIds, LeadInOrder};
 
-use bson::SpelledDocument;
+use bson_bytes::SpelledDocument;
 use candidate_ids::range_asked;
 use collections::Collections;
 use entries::Catalogued;

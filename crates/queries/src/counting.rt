@@ -10,7 +10,8 @@ ghost use Rattle.asked_documents.specs.Asking.{IsAsked};
 ghost use Rattle.asked_documents.specs.ById.{AreIdsOf};
 ghost use Rattle.queries.specs.Folding.{Counts};
 
-use bson::{NoMemory, RawDoc, SpelledDocument};
+use bson::NoMemory;
+use bson_bytes::{RawDoc, SpelledDocument};
 use candidate_ids::asked_ids;
 use collections::{Collections, DocumentFold};
 use entries::Catalogued;

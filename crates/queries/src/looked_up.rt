@@ -9,7 +9,7 @@ ghost use Rattle.asked_documents.specs.Asking.{IsAsked};
 ghost use Rattle.asked_documents.specs.ById.{AreIdsOfAsked};
 ghost use Rattle.queries.specs.LookedUp.{IsLookedUp, IsLookedUpWithin};
 
-use bson::SpelledDocument;
+use bson_bytes::SpelledDocument;
 use candidate_ids::asked_ids;
 use collections::Collections;
 use entries::Catalogued;

@@ -9,7 +9,8 @@ ghost use Rattle.queries.specs.PartlyTold.{IsToldOf};
 
 use crate::partly_told::PartlyTold;
 use asked_documents::DocumentPredicate;
-use bson::{NoMemory, SpelledDocument};
+use bson::NoMemory;
+use bson_bytes::SpelledDocument;
 use candidate_ids::{Told, asked_ids, told_in};
 use collections::Collections;
 use entries::Catalogued;

@@ -13,7 +13,8 @@ ghost use Rattle.queries.specs.Folding.{Sorts, TellFirst};
 
 use crate::by_order::first_by_index;
 use crate::looking_up::spelled_in;
-use bson::{Document, NoMemory, RawDoc, SpelledDocument};
+use bson::{Document, NoMemory};
+use bson_bytes::{RawDoc, SpelledDocument};
 use candidate_ids::asked_ids;
 use collections::{Collections, DocumentFold};
 use entries::Catalogued;

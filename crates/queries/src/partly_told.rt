@@ -7,7 +7,8 @@ ghost use Rattle.asked_documents.specs.ById.{one_matches};
 ghost use Rattle.value_order.specs.KeyText.{tree_text};
 
 use asked_documents::DocumentPredicate;
-use bson::{NoMemory, RawDoc};
+use bson::NoMemory;
+use bson_bytes::RawDoc;
 use candidate_ids::IdSet;
 use filter::Filter;
 use std::alloc::Global;

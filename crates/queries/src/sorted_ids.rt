@@ -16,7 +16,8 @@ ghost use Rattle.queries.specs.SortedIds.{HasNoOther, IsPartOf, IsShortOf, Keeps
 use crate::by_order::first_by_index;
 use crate::looking_up::looked_up_in;
 use crate::ordering::{first_ones, let_late_go};
-use bson::{BuildFault, Document, NoMemory, RawDoc, SpelledDocument, Value};
+use bson::{BuildFault, Document, NoMemory, Value};
+use bson_bytes::{RawDoc, SpelledDocument};
 use collections::{Collections, DocumentFold};
 use entries::Catalogued;
 use filter::Filter;

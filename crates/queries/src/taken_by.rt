@@ -6,7 +6,8 @@ ghost use Rattle.pipelines.specs.View.{pipeline_of};
 
 use aggregate::{leading_match, takes_raw};
 use asked_documents::DocumentPredicate;
-use bson::{NoMemory, RawDoc};
+use bson::NoMemory;
+use bson_bytes::RawDoc;
 use filter::Filter;
 use pipelines::Pipeline;
 use std::alloc::Global;

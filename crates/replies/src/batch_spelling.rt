@@ -11,9 +11,8 @@ ghost use Rattle.replies.specs.View.{projected, batch_name, IsSendable};
 use crate::batch::put_batch;
 use crate::giving::Gives;
 use crate::open_batch::OpenBatch;
-use bson::{
-    EncodeFault, Kind, NoMemory, SpelledDocument, Value, end_frame, put_head, put_string, put_value,
-};
+use bson::{EncodeFault, Kind, NoMemory, Value, end_frame, put_head, put_string, put_value};
+use bson_bytes::SpelledDocument;
 use projection::Projection;
 use std::alloc::{AllocError, Global};
 

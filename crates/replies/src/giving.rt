@@ -6,10 +6,8 @@ ghost use Rattle.bson.specs.Spelling.{frame_of, pairs_bytes};
 ghost use Rattle.projection.specs.Projection.{project};
 ghost use Rattle.database_model.specs.Lawful.{IsWithin};
 
-use bson::{
-    BsonFault, Document, EncodeFault, NoMemory, RawDoc, SpelledDocument, decode, encode,
-    encode_onto, laws,
-};
+use bson::{Document, EncodeFault, NoMemory, encode, encode_onto};
+use bson_bytes::{BsonFault, RawDoc, SpelledDocument, decode, laws};
 use projection::Projection;
 use std::alloc::{AllocError, Global};
 

@@ -16,7 +16,8 @@ ghost use Rattle.database_model.specs.ListCollections.{listed};
 ghost use Rattle.database_model.specs.ListIndexes.{described};
 ghost use Rattle.database_model.specs.Refusals.{int, total, words, ok_reply, refusal_reply};
 
-use bson::{Array, BuildFault, Document, NoMemory, SpelledDocument, Text, Value};
+use bson::{Array, BuildFault, Document, NoMemory, Text, Value};
+use bson_bytes::SpelledDocument;
 use path::Refusal;
 use std::alloc::{AllocError, Global};
 

@@ -1,6 +1,7 @@
 //! Why a test of a script ends.
 
-use bson::{BsonFault, BuildFault, EncodeFault};
+use bson::{BuildFault, EncodeFault};
+use bson_bytes::BsonFault;
 use ext_json::{ExtJsonFault, FaultAt};
 use std::alloc::{AllocError, AllocFailed, Global};
 

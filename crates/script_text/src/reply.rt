@@ -2,7 +2,8 @@
 
 use crate::fault::{Fault, differs};
 use crate::message::Shape;
-use bson::{Array, BsonFault, Document, Text, Value, decode, encode};
+use bson::{Array, Document, Text, Value, encode};
+use bson_bytes::{BsonFault, decode};
 use std::alloc::Global;
 use std::str::from_utf8;
 

@@ -5,7 +5,8 @@ use crate::fault::{Fault, differs};
 use crate::reply::is_document;
 use crate::values::values_in;
 use crate::words::Word;
-use bson::{Document, RawDoc, Value, decode, encode};
+use bson::{Document, Value, encode};
+use bson_bytes::{RawDoc, decode};
 use std::alloc::Global;
 use std::str::from_utf8;
 

@@ -1,7 +1,8 @@
 //! What a line of a test asks for.
 
 use crate::player::Player;
-use bson::{Array, Document, Text, Value, decode};
+use bson::{Array, Document, Text, Value};
+use bson_bytes::decode;
 use page::MemDisk;
 use script_disks::{is_sector, put_in_sector, read_sector, with_last_commit};
 use script_text::{

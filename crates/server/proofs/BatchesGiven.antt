@@ -1,7 +1,7 @@
 -- Why the batches of a cursor in a history cut the list that it had.
 use Rattle.std.proofs.Common.{◌≡◌, inl, inr, ℕ, ◌<◌, List, [], ◌∷◌, ◌++◌, Result, refl, sym, ◌∙◌, ap, subst, append_assoc}
 use Rattle.bson.specs.Tree.{Pairs}
-use Rattle.bson.specs.declared.fault.BsonFault.{BsonFault}
+use Rattle.bson_bytes.specs.declared.fault.BsonFault.{BsonFault}
 use Rattle.path.specs.declared.refusal.Refusal.{Refusal}
 use Rattle.op_msg.specs.Request.{body_of}
 use Rattle.op_msg.specs.declared.fault.FrameFault.{FrameFault}

@@ -3,8 +3,8 @@ use Rattle.std.proofs.Common.{◌≡◌, inl, inr, ℕ, refl, sym, subst}
 use Rattle.std.specs.Prelude.{◌≢◌, Result, Ok, Err}
 use Rattle.bson.specs.Tree.{Pairs}
 use Rattle.outcome.specs.Outcome.{Fails}
-use Rattle.bson.specs.declared.fault.BsonFault.{BsonFault}
-use Rattle.bson.specs.declared.fault.BsonFault.TheVariants as faults
+use Rattle.bson_bytes.specs.declared.fault.BsonFault.{BsonFault}
+use Rattle.bson_bytes.specs.declared.fault.BsonFault.TheVariants as faults
 use Rattle.database_model.specs.World.{World}
 use Rattle.database_model.specs.Refusals.{refusal_reply}
 use Rattle.database_model.specs.Step.{Answers}

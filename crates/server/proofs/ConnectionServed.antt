@@ -11,8 +11,8 @@ use Rattle.path.specs.declared.refusal.Refusal.{Refusal}
 use Rattle.database_model.specs.Step.{WroteNothing}
 use Rattle.engine.specs.Laws.{BodyOnlyReads}
 use Rattle.outcome.specs.Outcome.{Gives}
-use Rattle.bson.specs.declared.fault.BsonFault.{BsonFault}
-use Rattle.bson.specs.declared.fault.BsonFault.TheVariants as bson_faults
+use Rattle.bson_bytes.specs.declared.fault.BsonFault.{BsonFault}
+use Rattle.bson_bytes.specs.declared.fault.BsonFault.TheVariants as bson_faults
 use Rattle.server.specs.Turn.{frame_unless, frame_for, call_at, taken_at, AllRead, AnswersOnAnyDisk}
 use Rattle.server.specs.Taking.{IsTaken, IsAnswer, Serves}
 use Rattle.server.specs.declared.connection.Connection.{Connection}

@@ -5,7 +5,7 @@
 use Rattle.std.specs.Prelude.{◌≡◌, ◌<◌, ℕ, List, [], ◌∷◌, ◌++◌, Result}
 use Rattle.std.proofs.Common.{inl, inr}
 use Rattle.bson.specs.Tree.{Pairs}
-use Rattle.bson.specs.declared.fault.BsonFault.{BsonFault}
+use Rattle.bson_bytes.specs.declared.fault.BsonFault.{BsonFault}
 use Rattle.path.specs.declared.refusal.Refusal.{Refusal}
 use Rattle.op_msg.specs.Request.{body_of}
 use Rattle.database_model.specs.CursorLife.{HasLeft, batch_of_body}

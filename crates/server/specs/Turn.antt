@@ -10,7 +10,7 @@ use Rattle.op_msg.specs.ReplyNumbers.{next_number}
 use Rattle.std.specs.Prelude.{◌≡◌, ◌⊎◌, ℕ, ◌+◌, Bool, true, false, nat_lt, if◌then◌else◌, List, []}
 use Rattle.std.specs.Prelude.{◌∷◌, ◌++◌, length, Result, Ok, Err, Option, Some, None, OnErr}
 use Rattle.bson.specs.Tree.{Pairs}
-use Rattle.bson.specs.declared.fault.BsonFault.{BsonFault}
+use Rattle.bson_bytes.specs.declared.fault.BsonFault.{BsonFault}
 use Rattle.op_msg.specs.Frame.{Frame, front}
 use Rattle.op_msg.specs.Request.{body_of, reply_bytes, is_waiting}
 use Rattle.op_msg.specs.declared.fault.FrameFault.{FrameFault}

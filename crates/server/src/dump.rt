@@ -12,7 +12,7 @@ ghost use Rattle.server.specs.View.{state};
 ghost use Rattle.trusted_disk.specs.Trusting.{trusted_history};
 
 use crate::turn::Core;
-use bson::SpelledDocument;
+use bson_bytes::SpelledDocument;
 use collections::Walk;
 use engine::CheckFault;
 use page::Disk;

@@ -13,7 +13,7 @@ use Rattle.bson.specs.Tree.{Tree, scalar, null, document, array, Pairs, no_pairs
 use Rattle.bson.specs.Lookup.{lookup}
 use Rattle.bson.specs.Lawful.{pairs_levels, IsDocument}
 use Rattle.bson.specs.Spelling.{frame_of, pairs_bytes, Spells}
-use Rattle.bson.proofs.TreeLaws.{one_spelling}
+use Rattle.bson_bytes.proofs.TreeLaws.{one_spelling}
 use Rattle.value_order.specs.Order.{compare}
 use Rattle.value_order.specs.KeyText.{tree_text}
 use Rattle.value_order.specs.TotalLaws.{compare_total}

@@ -8,7 +8,8 @@ ghost use Rattle.database_model.specs.Merging.{is_deleted};
 ghost use Rattle.statements.specs.Redoing.{first_taken, taken, all_taken};
 
 use crate::matching::matches;
-use bson::{NoMemory, RawDoc};
+use bson::NoMemory;
+use bson_bytes::RawDoc;
 use commands::Deletion;
 use filter::Filter;
 use replies::SharedDocument;

@@ -13,7 +13,8 @@ ghost use Rattle.value_order.specs.Order.{compare};
 ghost use Rattle.value_order.specs.KeyText.{tree_text};
 ghost use Rattle.value_order.specs.declared.TheConstants.{KEY_LIMIT};
 
-use bson::{Document, NoMemory, RawDoc, Value};
+use bson::{Document, NoMemory, Value};
+use bson_bytes::RawDoc;
 use path::Refusal;
 use std::alloc::Global;
 use std::cmp::Ordering;

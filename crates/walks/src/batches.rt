@@ -19,7 +19,8 @@ ghost use Rattle.walks.specs.Batches.{Gives, IsBegun, IsEnded, IsGivenBatch, IsW
 use crate::dense::fold_dense;
 use crate::id_range::{IdSpan, span_asked};
 use crate::within::{document_of, is_within};
-use bson::{NoMemory, RawDoc, SpelledDocument};
+use bson::NoMemory;
+use bson_bytes::{RawDoc, SpelledDocument};
 use btree::Bounds;
 use collections::{Collections, DocumentFold};
 use entries::Catalogued;

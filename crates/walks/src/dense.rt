@@ -10,7 +10,8 @@ ghost use Rattle.walks.specs.IdRange.{IsWalked};
 ghost use Rattle.walks.specs.Dense.{StaysDense};
 
 use crate::id_range::IdSpan;
-use bson::{NoMemory, RawDoc};
+use bson::NoMemory;
+use bson_bytes::RawDoc;
 use btree::Bounds;
 use collections::{Collections, DocumentFold};
 use page::Disk;

@@ -10,7 +10,8 @@ ghost use Rattle.replies.specs.View.{IsSendable};
 ghost use Rattle.walks.specs.Listed.{AreListedIn, IsListedBatch, IsStoredIn, given_of, id_text_of};
 
 use crate::batches::{BatchAsked, GivenBatch, offer_within};
-use bson::{NoMemory, RawDoc, SpelledDocument, Value};
+use bson::{NoMemory, Value};
+use bson_bytes::{RawDoc, SpelledDocument};
 use collections::Collections;
 use page::Disk;
 use pager::Version;

@@ -12,7 +12,7 @@ ghost use Rattle.walks.specs.Scanning.{Selected};
 use crate::id_range::fold_asked;
 use crate::within::copied_within;
 use asked_documents::DocumentPredicate;
-use bson::{RawDoc, SpelledDocument};
+use bson_bytes::{RawDoc, SpelledDocument};
 use collections::{Collections, DocumentFold};
 use entries::Catalogued;
 use page::Disk;

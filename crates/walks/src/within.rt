@@ -9,7 +9,8 @@ ghost use Rattle.database_model.specs.Lawful.{IsWithin};
 ghost use Rattle.entries.specs.LawfulState.{IsStorable};
 ghost use Rattle.walks.specs.Within.{is_within};
 
-use bson::{BsonFault, Document, NoMemory, RawDoc, SpelledDocument, decode, laws};
+use bson::{Document, NoMemory};
+use bson_bytes::{BsonFault, RawDoc, SpelledDocument, decode, laws};
 use path::Refusal;
 use std::alloc::{AllocError, Global};
 use stored_documents::STORED_LIMIT;

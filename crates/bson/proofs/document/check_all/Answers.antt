@@ -3,10 +3,10 @@ use Rattle.std.specs.Prelude.{position, ◌==◌}
 use Rattle.std.proofs.lemmas.Result.{err_from_is_err_and}
 use Rattle.bson.specs.View.{pairs_of, names_of}
 use Rattle.bson.specs.Lawful.{HoldsDocument}
-use Rattle.bson.specs.Decoding.{stands_in}
+use Rattle.bson.specs.Lookup.{stands_in}
 use Rattle.bson.specs.declared.value.Pair.{Pair}
 use Rattle.bson.specs.declared.fault.BuildFault.TheVariants as builds
-use Rattle.bson.proofs.ReadLoopLaws.{names_pushed}
+use Rattle.bson.proofs.PushLaws.{names_pushed}
 use Rattle.bson.proofs.BuildLaws.{has_zero, is_name, is_repeated, Lacks-from_stands, HoldsDocument-push, refused, one_more}
 use Rattle.bson.proofs.document.check_all.Goals as goal
 

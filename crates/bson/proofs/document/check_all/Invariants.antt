@@ -1,7 +1,7 @@
 use Rattle.std.proofs.Common.{◌≡◌, ℕ, List, take}
 use Rattle.bson.specs.View.{pairs_of, names_of}
 use Rattle.bson.specs.Lawful.{HoldsDocument}
-use Rattle.bson.specs.Decoding.{stands_in}
+use Rattle.bson.specs.Lookup.{stands_in}
 use Rattle.bson.proofs.document.check_all.Given as goal
 
 abbrev pub invariant-pairs : goal.invariant-pairs

@@ -1,5 +1,5 @@
 use Rattle.std.proofs.Common.{◌≡◌, drop, map}
-use Rattle.bson.specs.Decoding.{stands_in}
+use Rattle.bson.specs.Lookup.{stands_in}
 use Rattle.bson.proofs.names.is_among.Given as goal
 
 abbrev pub invariant-loop-other : goal.invariant-loop-other

@@ -1,9 +1,9 @@
 use Rattle.std.proofs.Common.{refl}
 use Rattle.std.specs.Str.{is_utf8, chars}
 use lib.Utf8.{encode}
-use Rattle.bson.specs.Raw.{len_at}
-use Rattle.bson.specs.Decoding.{fixed_at, count_at, ended_at, content_at, text_at, string_at, int32_at, int64_at, scalar_at, kind_of, name_at}
-use Rattle.bson.specs.Decoding.{element_by, pairs_by, value_at, length_at, document_at}
+use Rattle.bson_bytes.specs.Raw.{len_at}
+use Rattle.bson_bytes.specs.Decoding.{fixed_at, count_at, ended_at, content_at, text_at, string_at, int32_at, int64_at, scalar_at, kind_of, name_at}
+use Rattle.bson_bytes.specs.Decoding.{element_by, pairs_by, value_at, length_at, document_at}
 use Rattle.op_msg.specs.Frame.{part_at, each_by, section_at, frame_of, front}
 use Rattle.driver_messages.specs.ForeignTypes.{foreign_of}
 use Rattle.driver_messages.specs.Incoming.{whole_at, read_whole}

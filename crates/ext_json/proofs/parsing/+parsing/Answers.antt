@@ -6,7 +6,7 @@ use Rattle.json.specs.Reads.{token_of}
 use Rattle.bson.specs.View.{tree, names_of}
 use Rattle.bson.specs.declared.value.Pair.{Pair}
 use Rattle.bson.specs.declared.value.Value.{Value}
-use Rattle.bson.specs.Decoding.{stands_in}
+use Rattle.bson.specs.Lookup.{stands_in}
 use Rattle.ext_json.specs.Tokens.{first, rest}
 use Rattle.ext_json.specs.Parsing.{is_end}
 use Rattle.ext_json.proofs.ParsingLemmas.{PairsSoFar, ItemsSoFar, value_as, pairs_deep, items_deep, document_fails, document_found, array_fails, array_found}

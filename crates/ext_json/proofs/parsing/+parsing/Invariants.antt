@@ -1,7 +1,7 @@
 use Rattle.std.proofs.Common.{◌≡◌, ℕ, ◌+◌, ◌*◌, List}
 use Rattle.std.specs.Prelude.{option_map}
 use Rattle.bson.specs.View.{names_of}
-use Rattle.bson.specs.Decoding.{stands_in}
+use Rattle.bson.specs.Lookup.{stands_in}
 use Rattle.ext_json.proofs.ParsingLemmas.{PairsSoFar, ItemsSoFar}
 use Rattle.ext_json.proofs.parsing.+parsing.Given as goal
 

@@ -3,8 +3,8 @@ use Rattle.std.specs.Str.{is_utf8, chars}
 use Rattle.std.specs.Fmt.{digits}
 use lib.Utf8.{encode}
 use Rattle.bson.specs.Spelling.{tree_bytes, pairs_bytes, items_bytes}
-use Rattle.bson.specs.Decoding.{fixed_at, count_at, ended_at, text_at, content_at, string_at, int32_at, int64_at, scalar_at, kind_of, name_at, element_by}
-use Rattle.bson.specs.Decoding.{item_by, pairs_by, items_by, value_at, length_at, document_at}
+use Rattle.bson_bytes.specs.Decoding.{fixed_at, count_at, ended_at, text_at, content_at, string_at, int32_at, int64_at, scalar_at, kind_of, name_at, element_by}
+use Rattle.bson_bytes.specs.Decoding.{item_by, pairs_by, items_by, value_at, length_at, document_at}
 use Rattle.op_msg.specs.Frame.{part_at, each_by, section_at, frame_of, front}
 use Rattle.op_msg.specs.Request.{reply_bytes}
 use Rattle.database_model.specs.Documents.{checked, insert_one}

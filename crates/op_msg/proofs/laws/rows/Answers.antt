@@ -1,9 +1,9 @@
 use Rattle.std.proofs.Common.{refl}
 use Rattle.std.specs.Str.{is_utf8, chars}
 use lib.Utf8.{encode}
-use Rattle.bson.specs.Decoding.{fixed_at, count_at, ended_at, content_at, scalar_at, kind_of, name_at as bson_name_at, element_by, pairs_by, value_at}
-use Rattle.bson.specs.Decoding.{length_at}
-use Rattle.bson.specs.Decoding.{document_at}
+use Rattle.bson_bytes.specs.Decoding.{fixed_at, count_at, ended_at, content_at, scalar_at, kind_of, name_at as bson_name_at, element_by, pairs_by, value_at}
+use Rattle.bson_bytes.specs.Decoding.{length_at}
+use Rattle.bson_bytes.specs.Decoding.{document_at}
 use Rattle.op_msg.specs.Frame.{part_at, each_by, section_at, frame_of, front}
 use Rattle.op_msg.proofs.laws.rows.Goals as goal
 

@@ -1,6 +1,6 @@
 use Rattle.std.proofs.Common.{◌∙◌, ap, not}
 use Rattle.bson.specs.Tree.{Pairs}
-use Rattle.bson.specs.declared.fault.BsonFault.{BsonFault}
+use Rattle.bson_bytes.specs.declared.fault.BsonFault.{BsonFault}
 use Rattle.std.specs.Prelude.{Result}
 use Rattle.outcome.specs.Outcome.{◌>>=◌}
 use Rattle.op_msg.specs.Frame.{sections_in, sequences_of}

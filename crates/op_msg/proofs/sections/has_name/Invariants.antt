@@ -1,5 +1,5 @@
 use Rattle.std.proofs.Common.{◌≡◌, length, take}
-use Rattle.bson.specs.Decoding.{stands_in}
+use Rattle.bson.specs.Lookup.{stands_in}
 use Rattle.op_msg.specs.Frame.{sections_in, names_of}
 use Rattle.op_msg.proofs.sections.has_name.Given as goal
 

@@ -1,7 +1,7 @@
 use Rattle.std.proofs.Common.{sym, ap, ◌∙◌, length, arith}
 use Rattle.std.proofs.lemmas.Bool.{ltb-true}
 use Rattle.std.proofs.lemmas.List.{length-drop}
-use Rattle.bson.proofs.TableLaws.{behind_next}
+use Rattle.bson_bytes.proofs.TableLaws.{behind_next}
 use Rattle.op_msg.specs.Frame.{sections_in, names_of}
 use Rattle.op_msg.proofs.NamesTwice.{few_names, new_at, some_twice, one_new, none_twice}
 use Rattle.op_msg.proofs.sections.has_name_twice.Goals as goal

@@ -1,5 +1,5 @@
 use Rattle.std.proofs.Common.{◌≡◌, ◌+◌, ◌≤◌, length, drop}
-use Rattle.bson.specs.RawNames.{AreNew}
+use Rattle.bson_bytes.specs.RawNames.{AreNew}
 use Rattle.op_msg.specs.Frame.{sections_in, names_of}
 use Rattle.op_msg.proofs.sections.has_name_twice.Given as goal
 

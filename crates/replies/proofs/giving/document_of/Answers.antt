@@ -1,6 +1,6 @@
 use Rattle.std.proofs.Common.{sym, ap, ◌∙◌}
-use Rattle.bson.specs.Raw.{document_or_none}
-use Rattle.bson.proofs.RawLaws.{document_spelled-is, document_whole}
+use Rattle.bson_bytes.specs.Raw.{document_or_none}
+use Rattle.bson_bytes.proofs.RawLaws.{document_spelled-is, document_whole}
 use Rattle.replies.proofs.giving.document_of.Goals as goal
 
 pub returns-in-Ok : goal.returns-in-Ok

@@ -2,8 +2,8 @@ use Rattle.std.proofs.Common.{◌≡◌, inl, refl, sym, subst}
 use Rattle.std.specs.Prelude.{Result, Ok, Err}
 use Rattle.bson.specs.Tree.{Pairs}
 use Rattle.outcome.specs.Outcome.{Gives}
-use Rattle.bson.specs.declared.fault.BsonFault.{BsonFault}
-use Rattle.bson.specs.declared.fault.BsonFault.TheVariants as bson_faults
+use Rattle.bson_bytes.specs.declared.fault.BsonFault.{BsonFault}
+use Rattle.bson_bytes.specs.declared.fault.BsonFault.TheVariants as bson_faults
 use Rattle.replies.proofs.SpelledSizes.{refusal-sendable}
 use Rattle.engine.specs.View.{world, reply_of}
 use Rattle.engine.specs.Durable.{file_of}

@@ -1,8 +1,8 @@
 use Rattle.std.proofs.Common.{List, take, sym, ap, ◌∙◌}
 use Rattle.bson.specs.View.{names_of}
-use Rattle.bson.specs.Decoding.{stands_in}
+use Rattle.bson.specs.Lookup.{stands_in}
 use Rattle.bson.specs.declared.value.Pair.{Pair}
-use Rattle.bson.proofs.ReadLoopLaws.{names_pushed}
+use Rattle.bson.proofs.PushLaws.{names_pushed}
 use Rattle.bson.proofs.BuildLaws.{one_more}
 use Rattle.bson.proofs.names.Names.of_pairs.Goals as goal
 

@@ -1,6 +1,6 @@
 use Rattle.std.proofs.Common.{◌≡◌, ℕ, List, take}
 use Rattle.bson.specs.View.{names_of}
-use Rattle.bson.specs.Decoding.{stands_in}
+use Rattle.bson.specs.Lookup.{stands_in}
 use Rattle.bson.proofs.names.Names.of_pairs.Given as goal
 
 abbrev pub invariant-pairs : goal.invariant-pairs

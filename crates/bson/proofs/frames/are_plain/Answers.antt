@@ -1,5 +1,0 @@
-use Rattle.bson.proofs.PlainTexts.{lanes_plain}
-use Rattle.bson.proofs.frames.are_plain.Goals as goal
-
-pub returns : goal.returns
-returns c = λ e. lanes_plain c.args.bytes.now c.args.at c.requires e

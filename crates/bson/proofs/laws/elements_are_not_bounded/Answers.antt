@@ -1,8 +1,0 @@
-use Rattle.bson.proofs.FirstFaultLaws.{pairs_unbounded, items_unbounded}
-use Rattle.bson.proofs.laws.elements_are_not_bounded.Goals as goal
-
-pub returns-clause-pairs : goal.returns-clause-pairs
-returns-clause-pairs c = pairs_unbounded
-
-pub returns-clause-items : goal.returns-clause-items
-returns-clause-items c = items_unbounded

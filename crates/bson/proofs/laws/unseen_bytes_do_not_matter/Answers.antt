@@ -1,5 +1,0 @@
-use Rattle.bson.proofs.SeenLaws.{document_stays}
-use Rattle.bson.proofs.laws.unseen_bytes_do_not_matter.Goals as goal
-
-pub returns : goal.returns
-returns c = document_stays

@@ -1,5 +1,0 @@
-use Rattle.bson.proofs.WrongLaws.{document_refused}
-use Rattle.bson.proofs.laws.what_is_wrong_is_refused.Goals as goal
-
-pub returns : goal.returns
-returns c = document_refused
