@@ -5,7 +5,7 @@ use Rattle.value_order.specs.KeyText.{tree_text}
 use Rattle.filter.specs.Condition.{Conditions}
 use Rattle.filter.specs.Matches.{matches}
 use Rattle.index.specs.Changes.{is_among}
-use Rattle.entries.specs.State.{key_of}
+use Rattle.entry_model.specs.State.{key_of}
 use Rattle.asked_documents.specs.ById.{ArePut, TellIdsBeside, one_matches}
 
 -- ---- texts behind others

@@ -5,7 +5,7 @@ use Rattle.filter.specs.Condition.{Conditions}
 use Rattle.filter.specs.Matches.{matches}
 use Rattle.collections.specs.Reading.{IsNumbered}
 use Rattle.database_model.specs.Lawful.{IsStored}
-use Rattle.entries.specs.State.{Collection}
+use Rattle.entry_model.specs.State.{Collection}
 use Rattle.entries.specs.declared.catalogue_reading.Catalogued.{Catalogued}
 
 -- one of the collections, of which the catalogue has this, and whose documents are such as commands

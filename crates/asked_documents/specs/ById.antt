@@ -10,7 +10,7 @@ use Rattle.path.specs.Reach.{candidates}
 use Rattle.filter.specs.Condition.{Conditions}
 use Rattle.filter.specs.Matches.{matches}
 use Rattle.index.specs.Changes.{is_among}
-use Rattle.entries.specs.State.{Collection, key_of}
+use Rattle.entry_model.specs.State.{Collection, key_of}
 use Rattle.planner.specs.IdLaws.{AreIdTexts}
 use Rattle.database_model.specs.Lawful.{IsStored}
 use Rattle.collections.specs.Reading.{IsNumbered}

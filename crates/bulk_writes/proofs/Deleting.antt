@@ -9,9 +9,9 @@ use Rattle.filter.specs.Matches.{matches}
 use Rattle.outcome.specs.Outcome.{◌>>=◌}
 use Rattle.path.specs.declared.refusal.Refusal.{Refusal}
 use Rattle.command_model.specs.Delete.{Deletion}
-use Rattle.entries.specs.State.{Collection, find_collection, put_collection}
-use Rattle.entries.proofs.FoundLawLemmas.{put_twice}
-use Rattle.entries.proofs.PlaceLemmas.{found_name}
+use Rattle.entry_model.specs.State.{Collection, find_collection, put_collection}
+use Rattle.entry_model.proofs.FoundLawLemmas.{put_twice}
+use Rattle.entry_model.proofs.PlaceLemmas.{found_name}
 use Rattle.database_model.specs.Delete.{after_deletion, after_deletions, deleted_in, run_delete, without_at}
 use Rattle.database_model.specs.World.{World, documents_of, documents_or_none}
 use Rattle.bulk_writes.specs.InTurn.{delete_one, run_in_turn}

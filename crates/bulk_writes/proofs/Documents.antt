@@ -17,9 +17,9 @@ use Rattle.path.specs.declared.refusal.Refusal.{Refusal}
 use Rattle.value_order.specs.Order.{compare}
 use Rattle.update_model.specs.Applying.{apply}
 use Rattle.command_model.specs.Update.{IsRead, UpdateStatement}
-use Rattle.entries.specs.Documents.{put_document}
-use Rattle.entries.specs.Entering.{DocumentWrite}
-use Rattle.entries.specs.State.{by_order}
+use Rattle.entry_model.specs.Documents.{put_document}
+use Rattle.entry_model.specs.Entering.{DocumentWrite}
+use Rattle.entry_model.specs.State.{by_order}
 use Rattle.database_model.specs.Documents.{key_of}
 use Rattle.database_model.specs.Lawful.{IsStored}
 use Rattle.database_model.specs.Merging.{Listed, made_of, none_changed, not_listed, one_or_none, put_each, run_each, run_listed}

@@ -4,9 +4,9 @@ use Rattle.outcome.specs.Outcome.{◌>>=◌}
 use Rattle.path.specs.declared.refusal.Refusal.{Refusal}
 use Rattle.path.specs.declared.refusal.Refusal.TheVariants as refusals
 use Rattle.command_model.specs.OutcomeLaws.{passed, step_of}
-use Rattle.entries.specs.Entering.{DocumentWrite, enter_each, entered}
-use Rattle.entries.specs.State.{Collection, put_collection}
-use Rattle.entries.proofs.EnteringLemmas.{has_entered}
+use Rattle.entry_model.specs.Entering.{DocumentWrite, enter_each, entered}
+use Rattle.entry_model.specs.State.{Collection, put_collection}
+use Rattle.entry_model.proofs.EnteringLemmas.{has_entered}
 use Rattle.database_model.specs.Insert.{is_full}
 use Rattle.database_model.specs.Merging.{put_each}
 use Rattle.database_model.specs.UpdateCommand.{entered_in, written_in}

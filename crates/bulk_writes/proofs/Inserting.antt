@@ -8,9 +8,9 @@ use Rattle.update_model.specs.Stored.{id_first}
 use Rattle.command_model.specs.Command.{Command}
 use Rattle.command_model.specs.Insert.{Insert}
 use Rattle.command_model.specs.OutcomeLaws.{step_of}
-use Rattle.entries.specs.Entering.{entered}
-use Rattle.entries.specs.State.{Collection, put_collection}
-use Rattle.entries.proofs.EnteringLemmas.{has_entered}
+use Rattle.entry_model.specs.Entering.{entered}
+use Rattle.entry_model.specs.State.{Collection, put_collection}
+use Rattle.entry_model.proofs.EnteringLemmas.{has_entered}
 use Rattle.database_model.specs.Documents.{checked, insert_all, insert_one as enter_one}
 use Rattle.database_model.specs.Insert.{inserted, is_full, run_insert}
 use Rattle.database_model.specs.World.{World, collection_of}

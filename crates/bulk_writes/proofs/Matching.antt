@@ -13,7 +13,7 @@ use Rattle.path.specs.declared.refusal.Refusal.TheVariants as refusals
 use Rattle.update_model.specs.Applying.{apply}
 use Rattle.command_model.specs.OutcomeLaws.{passed, step_of}
 use Rattle.command_model.specs.Update.{UpdateStatement}
-use Rattle.entries.specs.State.{Collection}
+use Rattle.entry_model.specs.State.{Collection}
 use Rattle.database_model.specs.Insert.{is_full}
 use Rattle.database_model.specs.Refusals.{ok_reply}
 use Rattle.database_model.specs.Update.{Changed, changed_to, counted, judged, not_changed, not_updated, passed_over, run_all, run_statement, run_statements}

@@ -4,8 +4,8 @@ use Rattle.std.specs.Prelude.{◌&&◌, not, nat_le, is_some}
 use Rattle.outcome.specs.Outcome.{◌>>=◌, unless}
 use Rattle.path.specs.declared.refusal.Refusal.{Refusal}
 use Rattle.path.specs.declared.refusal.Refusal.TheVariants as refusals
-use Rattle.entries.specs.State.{Collection, find_collection, put_collection}
-use Rattle.entries.proofs.FoundLawLemmas.{finds_put, put_twice}
+use Rattle.entry_model.specs.State.{Collection, find_collection, put_collection}
+use Rattle.entry_model.proofs.FoundLawLemmas.{finds_put, put_twice}
 use Rattle.database_model.specs.Insert.{is_full}
 use Rattle.database_model.specs.World.{collection_of, or_empty, unused}
 

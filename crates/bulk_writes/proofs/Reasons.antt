@@ -20,8 +20,8 @@ use Rattle.update_model.specs.Applying.{apply}
 use Rattle.update_model.specs.Stored.{id_name, id_of, no_array}
 use Rattle.command_model.specs.OutcomeLaws.{step_of}
 use Rattle.command_model.specs.Update.{IsRead, UpdateStatement}
-use Rattle.entries.specs.Entering.{DocumentWrite}
-use Rattle.entries.specs.State.{Collection}
+use Rattle.entry_model.specs.Entering.{DocumentWrite}
+use Rattle.entry_model.specs.State.{Collection}
 use Rattle.database_model.specs.Documents.{key_of, place}
 use Rattle.database_model.specs.Insert.{is_full}
 use Rattle.database_model.specs.Merging.{Listed, listed_to, none_changed, not_listed, run_listed, upsert_listed, with_listed}

@@ -10,8 +10,8 @@ use Rattle.path.specs.declared.refusal.Refusal.TheVariants as refusals
 use Rattle.update_model.specs.Applying.{apply}
 use Rattle.command_model.specs.OutcomeLaws.{passed, step_of}
 use Rattle.command_model.specs.Update.{UpdateStatement}
-use Rattle.entries.specs.State.{Collection, find_collection}
-use Rattle.entries.proofs.PlaceLemmas.{found_name}
+use Rattle.entry_model.specs.State.{Collection, find_collection}
+use Rattle.entry_model.proofs.PlaceLemmas.{found_name}
 use Rattle.database_model.specs.Documents.{key_of, place}
 use Rattle.database_model.specs.Insert.{is_full}
 use Rattle.database_model.specs.Merging.{Listed, listed_to, one_or_none, run_each, run_listed, upsert_listed, with_listed}

@@ -13,10 +13,10 @@ use Rattle.path.specs.declared.refusal.Refusal.{Refusal}
 use Rattle.path.specs.declared.refusal.Refusal.TheVariants as refusals
 use Rattle.command_model.specs.OutcomeLaws.{passed, step_of}
 use Rattle.command_model.specs.Update.{IsRead, Update, UpdateStatement}
-use Rattle.entries.specs.Entering.{DocumentWrite}
-use Rattle.entries.specs.State.{Collection, find_collection}
-use Rattle.entries.proofs.MemberLemmas.{of_all}
-use Rattle.entries.proofs.PlaceLemmas.{found_in}
+use Rattle.entry_model.specs.Entering.{DocumentWrite}
+use Rattle.entry_model.specs.State.{Collection, find_collection}
+use Rattle.entry_model.proofs.MemberLemmas.{of_all}
+use Rattle.entry_model.proofs.PlaceLemmas.{found_in}
 use Rattle.database_model.specs.Insert.{is_full}
 use Rattle.database_model.specs.Lawful.{IsHeld}
 use Rattle.database_model.specs.Merging.{Listed, not_listed, put_each, run_each, run_listed}

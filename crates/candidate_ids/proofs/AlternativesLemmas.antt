@@ -14,7 +14,7 @@ use Rattle.filter.specs.Matches.{Subject, all_hold, any_holds, holds, matches, w
 use Rattle.filter.specs.View.{condition_of, conditions_of}
 use Rattle.filter.specs.declared.condition.Condition.{Condition as Made}
 use Rattle.filter.specs.declared.condition.Condition.TheVariants as conditions
-use Rattle.entries.specs.State.{Collection}
+use Rattle.entry_model.specs.State.{Collection}
 use Rattle.index.specs.View.{texts_of}
 use Rattle.entries.specs.declared.catalogue_reading.Catalogued.{Catalogued}
 use Rattle.candidate_ids.specs.Alternatives.{AreAlternatives, equal_at, one_holds, subject_at}

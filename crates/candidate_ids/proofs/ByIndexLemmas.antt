@@ -14,16 +14,16 @@ use Rattle.value_order.specs.KeyText.{tree_text}
 use Rattle.value_order.specs.Order.{bytes_cmp}
 use Rattle.index.specs.Definition.{Definition}
 use Rattle.index.specs.KeyTexts.{ascending_set}
-use Rattle.entries.specs.LawfulState.{IsKept, IsLawfulState, IsStorable}
-use Rattle.entries.specs.State.{Collection, key_of}
-use Rattle.entries.specs.StateReads.{find_document}
+use Rattle.entry_model.specs.LawfulState.{IsKept, IsLawfulState, IsStorable}
+use Rattle.entry_model.specs.State.{Collection, key_of}
+use Rattle.entry_model.specs.StateReads.{find_document}
 use Rattle.index.specs.View.{texts_of}
 use Rattle.entries.specs.declared.catalogue_reading.Catalogued.{Catalogued}
-use Rattle.entries.proofs.EntryLemmas.{id_is_key}
-use Rattle.entries.proofs.FoundLawLemmas.{found_collection}
-use Rattle.entries.proofs.KeyOfDocument.{among_test, test_among}
-use Rattle.entries.proofs.MemberLemmas.{Among, among_image, among_of, contains_of, of_all}
-use Rattle.entries.proofs.ReadLaws.{document_some}
+use Rattle.entry_model.proofs.LawfulParts.{id_is_key}
+use Rattle.entry_model.proofs.FoundLawLemmas.{found_collection}
+use Rattle.entry_model.proofs.KeyOfDocument.{among_test, test_among}
+use Rattle.entry_model.proofs.MemberLemmas.{Among, among_image, among_of, contains_of, of_all}
+use Rattle.entry_model.proofs.DocumentPlaces.{document_some}
 use Rattle.index.proofs.SetLemmas.{set_among, set_sorted}
 use Rattle.collections.specs.IndexTexts.{AreTextsBetween, Indexed, IsNumberedIndex}
 use Rattle.collections.specs.Reading.{IsNumbered}
@@ -31,7 +31,7 @@ use Rattle.planner.specs.FoundIds.{LeadToMatching, ids_in, ids_of}
 use Rattle.planner.specs.IdLaws.{AreIdTexts}
 use Rattle.planner.specs.KeyRange.{IsSpellable}
 use Rattle.planner.specs.KeySpan.{first_key, last_key}
-use Rattle.planner.specs.Plan.{Range, by_index, choose, fields_of, range_in}
+use Rattle.plan_model.specs.Plan.{Range, by_index, choose, fields_of, range_in}
 use Rattle.planner.specs.RangeReading.{AreReadFrom}
 use Rattle.planner.specs.View.{index_of, plan_of, range_of}
 use Rattle.planner.specs.declared.plan.Plan.{Plan as Chosen}

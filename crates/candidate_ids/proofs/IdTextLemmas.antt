@@ -23,14 +23,14 @@ use Rattle.filter.specs.View.{condition_of, conditions_of}
 use Rattle.filter.specs.declared.condition.Condition.{Condition as Made}
 use Rattle.index.specs.Changes.{is_among}
 use Rattle.index.specs.KeyTexts.{ascending_set, put_at, put_key}
-use Rattle.entries.specs.LawfulState.{IsLawfulState, IsStorable}
-use Rattle.entries.specs.State.{Collection, key_of}
+use Rattle.entry_model.specs.LawfulState.{IsLawfulState, IsStorable}
+use Rattle.entry_model.specs.State.{Collection, key_of}
 use Rattle.index.specs.View.{texts_of}
 use Rattle.entries.specs.declared.catalogue_reading.Catalogued.{Catalogued}
-use Rattle.entries.proofs.EntryLemmas.{id_is_key}
-use Rattle.entries.proofs.FoundLawLemmas.{found_collection}
-use Rattle.entries.proofs.KeyOfDocument.{among_test, test_among}
-use Rattle.entries.proofs.MemberLemmas.{among_back, among_front, among_of, contains_of, of_all}
+use Rattle.entry_model.proofs.LawfulParts.{id_is_key}
+use Rattle.entry_model.proofs.FoundLawLemmas.{found_collection}
+use Rattle.entry_model.proofs.KeyOfDocument.{among_test, test_among}
+use Rattle.entry_model.proofs.MemberLemmas.{among_back, among_front, among_of, contains_of, of_all}
 use Rattle.index.proofs.SetLemmas.{set_among, set_sorted}
 use Rattle.planner.specs.IdLaws.{AreIdTexts}
 use Rattle.planner.proofs.RisingLemmas.{pairs_of}

@@ -6,8 +6,8 @@ use Rattle.bson.specs.Tree.{Tree}
 use Rattle.filter.specs.Condition.{Conditions}
 use Rattle.sort.specs.Sort.{SortField}
 use Rattle.index.specs.Definition.{Definition, Field}
-use Rattle.planner.specs.Plan.{Range, and_then, asked_next, asked_of, leading, range_in, sorts_as, upper_beside}
-use Rattle.planner.specs.Usable.{Bound, Usable, no_array, nothing}
+use Rattle.plan_model.specs.Plan.{Range, and_then, asked_next, asked_of, leading, range_in, sorts_as, upper_beside}
+use Rattle.plan_model.specs.Usable.{Bound, Usable, no_array, nothing}
 use Rattle.candidate_ids.specs.Alternatives.{begins_with, equal_at, has_other_next, has_path}
 use Rattle.planner.proofs.UsableLemmas.{and_first, and_second}
 

@@ -14,10 +14,10 @@ use Rattle.filter.specs.Condition.{Conditions}
 use Rattle.filter.specs.Matches.{matches}
 use Rattle.value_order.specs.KeyText.{tree_text}
 use Rattle.index.specs.Changes.{is_among}
-use Rattle.entries.specs.State.{Collection, key_of}
+use Rattle.entry_model.specs.State.{Collection, key_of}
 use Rattle.index.specs.View.{texts_of}
-use Rattle.entries.proofs.KeyOfDocument.{among_test, test_among}
-use Rattle.entries.proofs.MemberLemmas.{among_back, among_front}
+use Rattle.entry_model.proofs.KeyOfDocument.{among_test, test_among}
+use Rattle.entry_model.proofs.MemberLemmas.{among_back, among_front}
 use Rattle.entries.specs.declared.catalogue_reading.Catalogued.{Catalogued}
 use Rattle.asked_documents.specs.Asking.{IsAsked}
 use Rattle.asked_documents.specs.ById.{AreIdsOf, ArePut, IsIdText, IsIn, Tell, TellBeside, TellIds, TellIdsBeside, TellOf, but_not, one_matches}

@@ -8,7 +8,7 @@ use Rattle.path.specs.Reach.{reach}
 use Rattle.filter.specs.Condition.{Condition, at, is, equal, Conditions, no_conditions, condition}
 use Rattle.filter.specs.Matches.{Subject, along, whole, any_holds}
 use Rattle.index.specs.Definition.{Field}
-use Rattle.planner.specs.Usable.{is_path}
+use Rattle.plan_model.specs.Usable.{is_path}
 
 -- what is asked: a document, or what a path reaches in it
 abbrev pub subject_at : Option (List (List ℕ)) → Pairs → Subject

@@ -7,7 +7,7 @@ use Rattle.collections.specs.IndexTexts.{AreTextsBetween, Indexed}
 use Rattle.planner.specs.FoundIds.{ids_of}
 use Rattle.planner.specs.KeyRange.{IsSpellable}
 use Rattle.planner.specs.KeySpan.{first_key, last_key}
-use Rattle.planner.specs.Plan.{Range, range_in}
+use Rattle.plan_model.specs.Plan.{Range, range_in}
 
 -- The range is what the filter and a sort give in one of the indexes.
 pub record IsRangeOf (rs : Conditions) (sort : List SortField) (indexes : List Definition)

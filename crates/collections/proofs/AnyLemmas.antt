@@ -9,9 +9,9 @@ use Rattle.path.specs.declared.refusal.Refusal.{Refusal}
 use Rattle.path.specs.declared.refusal.Refusal.TheVariants as refusals
 use Rattle.index.specs.Definition.{Definition}
 use Rattle.entries.specs.OtherKeys.{has_other_key}
-use Rattle.entries.specs.State.{Collection}
+use Rattle.entry_model.specs.State.{Collection}
 use Rattle.index.specs.View.{texts_of}
-use Rattle.entries.specs.StateEntries.{Spells}
+use Rattle.entry_model.specs.StateEntries.{Spells}
 use Rattle.entries.proofs.SpelledLaws.{spelled_once}
 use Rattle.collections.specs.Calls.{ExtendsTurn, IsUnchanged, Reads}
 use Rattle.collections.specs.OtherKeys.{TellsOf, any_other_key, is_taken}

@@ -13,8 +13,8 @@ use Rattle.path.specs.declared.refusal.Refusal.TheVariants as refusals
 use Rattle.pager.specs.State.{State as PagerState}
 use Rattle.pager.specs.Turn.{IsOrderly, Returns, undone_to}
 use Rattle.pager.specs.View.{pager_history, store_of}
-use Rattle.entries.specs.State.{Collection}
-use Rattle.entries.specs.StateEntries.{Spells}
+use Rattle.entry_model.specs.State.{Collection}
+use Rattle.entry_model.specs.StateEntries.{Spells}
 use Rattle.collections.specs.State.{State}
 use Rattle.collections.specs.Calls.{Applies, ExtendsTurn, HasWriteCause, IsOfFile}
 use Rattle.collections.specs.Applying.{ChangesTree, refusal_of}

@@ -15,9 +15,9 @@ use Rattle.tree_model.specs.Keys.{Each, Entry, IsUnder, Rises, is_within, key_cm
 use Rattle.tree_model.specs.Calls.{IsBatch}
 use Rattle.tree_model.proofs.KeyLemmas.{not_under_itself, under_trans}
 use Rattle.entries.specs.OtherKeys.{IsEndOf}
-use Rattle.entries.specs.StateEntries.{entry_keys}
+use Rattle.entry_model.specs.StateEntries.{entry_keys}
 use Rattle.entries.proofs.FrontLemmas.{starts_so, starts_there}
-use Rattle.entries.proofs.MemberLemmas.{Among, among_each, among_flat}
+use Rattle.entry_model.proofs.MemberLemmas.{Among, among_each, among_flat}
 use Rattle.collections.specs.IndexTexts.{text_behind, texts_behind}
 
 -- ---- texts behind a front

@@ -12,7 +12,7 @@ use Rattle.path.specs.declared.refusal.Refusal.TheVariants as refusals
 use Rattle.pager.specs.State.{State as PagerState}
 use Rattle.pager.specs.View.{store_of}
 use Rattle.pager.specs.declared.version.Version.{Version}
-use Rattle.entries.specs.State.{Collection}
+use Rattle.entry_model.specs.State.{Collection}
 use Rattle.collections.specs.Below.{HasBelow, IsNothing, ReadsBelow}
 use Rattle.collections.specs.Calls.{HasReadCause, Reads}
 use Rattle.collections.specs.Reading.{IsInTree, LooksUp, OrMemory, ReadsOf}

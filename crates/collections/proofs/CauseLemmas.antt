@@ -4,7 +4,7 @@ use Rattle.page.specs.History.{History, KeepsWord}
 use Rattle.tree_model.specs.Store.{HasNoPage}
 use Rattle.path.specs.declared.refusal.Refusal.{Refusal}
 use Rattle.path.specs.declared.refusal.Refusal.TheVariants as refusals
-use Rattle.entries.specs.State.{Collection}
+use Rattle.entry_model.specs.State.{Collection}
 use Rattle.collections.specs.Calls.{ExtendsTurn, HasCause, HasFailed, HasReadCause, HasWriteCause}
 use Rattle.collections.specs.State.{State}
 use Rattle.collections.specs.View.{disk_history, pages_of}

@@ -14,7 +14,7 @@ use Rattle.roots.specs.declared.root.Root.{Root}
 use Rattle.pager.specs.Commit.{CommitsPages as CommitsPages, CountsTakes, FindsNoRoom as FindsNoRoomFor, MovesTurns, Moves as MovesPages}
 use Rattle.pager.specs.State.{State as PagerState}
 use Rattle.pager.specs.View.{pager_history, store_of}
-use Rattle.entries.specs.State.{Collection}
+use Rattle.entry_model.specs.State.{Collection}
 use Rattle.collections.specs.State.{State}
 use Rattle.collections.specs.Calls.{ExtendsTurn}
 use Rattle.collections.specs.Committing.{CommitsCollections, FindsNoRoom}

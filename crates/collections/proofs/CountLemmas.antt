@@ -17,7 +17,7 @@ use Rattle.pager.specs.Counting.{CountsPages as CountsPager}
 use Rattle.pager.specs.State.{State as PagerState}
 use Rattle.pager.specs.View.{pager_history, store_of}
 use Rattle.pager.proofs.TurnLemmas.{committed_still}
-use Rattle.entries.specs.State.{Collection}
+use Rattle.entry_model.specs.State.{Collection}
 use Rattle.collections.specs.Counting.{CountsPages, HasCountCause, HasCounts}
 use Rattle.collections.specs.Laws.{HasOneCount}
 use Rattle.collections.specs.Standing.{IsTurnOf}

@@ -22,7 +22,7 @@ use Rattle.tree_model.proofs.KeyLemmas.{not_both, not_under_itself, under_then_u
 use Rattle.tree_model.proofs.ListLemmas.{each_map, map_append, map_map, rises_append}
 use Rattle.tree_model.proofs.OnceLemmas.{old_trees_stay}
 use Rattle.tree_model.proofs.StoreLemmas.{grows_itself}
-use Rattle.entries.specs.StateEntries.{entry_keys}
+use Rattle.entry_model.specs.StateEntries.{entry_keys}
 use Rattle.path.specs.declared.refusal.Refusal.{Refusal}
 use Rattle.path.specs.declared.refusal.Refusal.TheVariants as refusals
 use Rattle.pager.specs.State.{State as PagerState}

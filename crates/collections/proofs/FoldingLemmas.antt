@@ -19,11 +19,11 @@ use Rattle.tree_model.specs.Store.{Grows, IsSame, KeepsWord as KeepsStore}
 use Rattle.tree_model.specs.Tree.{Body, IsTree, entries_of}
 use Rattle.btree.specs.declared.folding.Bounds.{Bounds}
 use Rattle.tree_model.specs.declared.pages.TreeFault.{TreeFault}
-use Rattle.entries.specs.LawfulState.{IsKept, IsStorable}
-use Rattle.entries.specs.State.{Collection, key_of}
-use Rattle.entries.specs.StateEntries.{document_entry, key_under}
+use Rattle.entry_model.specs.LawfulState.{IsKept, IsStorable}
+use Rattle.entry_model.specs.State.{Collection, key_of}
+use Rattle.entry_model.specs.StateEntries.{document_entry, key_under}
 use Rattle.entries.proofs.BatchLaws.{lists_documents_from}
-use Rattle.entries.proofs.FoundLawLemmas.{found_collection}
+use Rattle.entry_model.proofs.FoundLawLemmas.{found_collection}
 use Rattle.entries.proofs.HomeLemmas.{number_fits}
 use Rattle.pager.specs.Capacity.{TreesFit}
 use Rattle.pager.specs.State.{State as PagerState}

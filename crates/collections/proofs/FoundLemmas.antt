@@ -17,12 +17,12 @@ use Rattle.btree.specs.declared.scanning.Batch.{Batch}
 use Rattle.btree.specs.declared.scanning.Entry.{Entry as OwnEntry}
 use Rattle.btree.specs.declared.scanning.Range.{Range}
 use Rattle.index.specs.Definition.{Definition}
-use Rattle.entries.specs.LawfulState.{IsKept, IsStorable}
-use Rattle.entries.specs.State.{Collection, find_collection, words}
-use Rattle.entries.specs.StateEntries.{catalogue_entry, document_entry, key_under}
-use Rattle.entries.specs.StateReads.{catalogue_bytes}
+use Rattle.entry_model.specs.LawfulState.{IsKept, IsStorable}
+use Rattle.entry_model.specs.State.{Collection, find_collection, words}
+use Rattle.entry_model.specs.StateEntries.{catalogue_entry, document_entry, key_under}
+use Rattle.entry_model.specs.StateReads.{catalogue_bytes}
 use Rattle.entries.specs.declared.catalogue_reading.Catalogued.{Catalogued}
-use Rattle.entries.proofs.FoundLawLemmas.{found_collection, found_document}
+use Rattle.entry_model.proofs.FoundLawLemmas.{found_collection, found_document}
 use Rattle.entries.proofs.ListingLaws.{lists_collections}
 use Rattle.entries.proofs.ReadLaws.{finds_collection, finds_document}
 use Rattle.collections.specs.Reading.{AreBytesAt, AreEach, IsBatchOf, IsInTree, IsOfCollection, IsOfDocument, IsPlaceOf, IsValueAt, OrMemory, Place}

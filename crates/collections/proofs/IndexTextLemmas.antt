@@ -20,17 +20,18 @@ use Rattle.tree_model.proofs.KeyLemmas.{three, under_then_up_to, under_trans}
 use Rattle.index.specs.Definition.{Definition}
 use Rattle.index.specs.View.{texts_of}
 use Rattle.index.specs.KeyTexts.{encoded_keys}
-use Rattle.entries.specs.LawfulState.{IsKept}
+use Rattle.entry_model.specs.LawfulState.{IsKept}
 use Rattle.entries.specs.OtherKeys.{IsEndOf}
-use Rattle.entries.specs.State.{Collection, key_of}
-use Rattle.entries.specs.StateEntries.{entry_keys, index_entries, index_entry, key_under}
-use Rattle.entries.specs.StateLaws.{entries_in}
-use Rattle.entries.specs.StateReads.{entries_under}
+use Rattle.entry_model.specs.State.{Collection, key_of}
+use Rattle.entry_model.specs.StateEntries.{entry_keys, index_entries, index_entry, key_under}
+use Rattle.entry_model.specs.StateLaws.{entries_in}
+use Rattle.entry_model.specs.StateReads.{entries_under}
 use Rattle.entries.proofs.EntryLemmas.{key_among, same_rest}
-use Rattle.entries.proofs.FoundLawLemmas.{found_collection}
-use Rattle.entries.proofs.HomeLemmas.{listed_of, number_fits}
+use Rattle.entry_model.proofs.FoundLawLemmas.{found_collection}
+use Rattle.entries.proofs.HomeLemmas.{number_fits}
+use Rattle.entry_model.proofs.LawfulParts.{listed_of}
 use Rattle.entries.proofs.ListingLaws.{lists_index}
-use Rattle.entries.proofs.MemberLemmas.{Among, among_append, among_each, among_flat, among_front, among_map, among_of, contains_of}
+use Rattle.entry_model.proofs.MemberLemmas.{Among, among_append, among_each, among_flat, among_front, among_map, among_of, contains_of}
 use Rattle.entries.proofs.WindowLemmas.{among_window, inside_there, is_inside, window_among, window_rises}
 use Rattle.collections.specs.IndexTexts.{AreFirstTexts, AreNextTexts, AreTextsBelow, AreTextsBetween, Indexed, IsEntryText, IsNumberedIndex, IsTextFrom}
 use Rattle.collections.specs.IndexTexts.{LiesBetween, next_behind, text_behind, texts_behind}

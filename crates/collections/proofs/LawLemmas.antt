@@ -16,9 +16,9 @@ use Rattle.pager.specs.View.{store_of}
 use Rattle.pager.proofs.BeginLemmas.{begun_map}
 use Rattle.pager.proofs.TurnLemmas.{committed_still}
 use Rattle.entries.proofs.OneStateLaws.{spells_one}
-use Rattle.entries.specs.LawfulState.{IsLawfulState}
-use Rattle.entries.specs.State.{Collection}
-use Rattle.entries.specs.StateEntries.{Spells}
+use Rattle.entry_model.specs.LawfulState.{IsLawfulState}
+use Rattle.entry_model.specs.State.{Collection}
+use Rattle.entry_model.specs.StateEntries.{Spells}
 use Rattle.collections.specs.State.{State}
 use Rattle.collections.specs.Laws.{ExtendsItself, GoesFurther, HasOneState, HoldsOne, LeavesStart, RestsAtStart, ZerosHoldNothing}
 use Rattle.collections.specs.Standing.{IsTurnOf}

@@ -6,7 +6,7 @@ use Rattle.roots.specs.Store as stores
 use Rattle.pager.specs.State.{State as PagerState}
 use Rattle.pager.specs.Turn.{IsBegun, LeadsBack, Returns, undone_to}
 use Rattle.pager.specs.View.{pager_history, store_of}
-use Rattle.entries.specs.State.{Collection}
+use Rattle.entry_model.specs.State.{Collection}
 use Rattle.collections.specs.State.{State}
 use Rattle.collections.specs.declared.mark.Mark.{Mark}
 use Rattle.collections.specs.Calls.{ExtendsTurn}

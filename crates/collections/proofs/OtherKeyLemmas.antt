@@ -14,8 +14,8 @@ use Rattle.btree.specs.declared.scanning.Range.{Range}
 use Rattle.index.specs.Changes.{is_among}
 use Rattle.entries.specs.EditList.{edit_at}
 use Rattle.entries.specs.OtherKeys.{is_another, leaves_another, puts_another, IsEndOf}
-use Rattle.entries.specs.State.{Collection}
-use Rattle.entries.specs.StateEntries.{key_under}
+use Rattle.entry_model.specs.State.{Collection}
+use Rattle.entry_model.specs.StateEntries.{key_under}
 use Rattle.entries.proofs.EditLookLemmas.{put_what_they_have}
 use Rattle.entries.proofs.OtherEditLaws.{after_edits, in_range}
 use Rattle.collections.specs.OtherKeys.{TellsDocument, TellsOtherKey}

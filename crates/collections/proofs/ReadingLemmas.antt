@@ -20,7 +20,7 @@ use Rattle.tree_model.specs.declared.pages.TreeFault.TheVariants as faults
 use Rattle.tree_model.proofs.StoreLemmas.{grows_itself}
 use Rattle.pager.specs.State.{State as PagerState}
 use Rattle.pager.specs.View.{store_of}
-use Rattle.entries.specs.State.{Collection}
+use Rattle.entry_model.specs.State.{Collection}
 use Rattle.collections.specs.Applying.{refusal_of}
 use Rattle.collections.specs.Calls.{HasCause, HasReadCause, IsUnchanged, Reads}
 use Rattle.collections.specs.Entries.{IsNotForRoom, ReadsEntries}

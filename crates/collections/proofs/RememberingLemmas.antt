@@ -19,8 +19,8 @@ use Rattle.pager.specs.declared.version.Version.{Version}
 use Rattle.pager.proofs.ListedLemmas.{free_inside}
 use Rattle.pager.proofs.StayLemmas.{map_at}
 use Rattle.value_order.specs.KeyText.{tree_text}
-use Rattle.entries.specs.State.{Collection, find_collection, words}
-use Rattle.entries.specs.StateEntries.{key_under}
+use Rattle.entry_model.specs.State.{Collection, find_collection, words}
+use Rattle.entry_model.specs.StateEntries.{key_under}
 use Rattle.entries.specs.declared.catalogue_reading.Catalogued.{Catalogued}
 use Rattle.collections.specs.Below.{HasBelow, IsNothing, ReadsBelow}
 use Rattle.collections.specs.Calls.{Reads}

@@ -18,9 +18,9 @@ use Rattle.pager.specs.Turn.{IsBegun}
 use Rattle.pager.specs.View.{pager_history, store_of}
 use Rattle.pager.proofs.BeginLemmas.{turn_begins}
 use Rattle.pager.proofs.TurnLemmas.{same_root}
-use Rattle.entries.specs.LawfulState.{IsLawfulState}
-use Rattle.entries.specs.State.{Collection}
-use Rattle.entries.specs.StateEntries.{Spells}
+use Rattle.entry_model.specs.LawfulState.{IsLawfulState}
+use Rattle.entry_model.specs.State.{Collection}
+use Rattle.entry_model.specs.StateEntries.{Spells}
 use Rattle.collections.specs.State.{State}
 use Rattle.collections.specs.Calls.{ExtendsTurn}
 use Rattle.collections.specs.Standing.{HasState, IsTurnOf}

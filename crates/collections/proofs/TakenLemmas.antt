@@ -7,13 +7,13 @@ use Rattle.tree_model.specs.Keys.{Entry}
 use Rattle.value_order.specs.KeyText.{tree_text}
 use Rattle.index.specs.Changes.{is_among}
 use Rattle.index.specs.Definition.{Definition}
-use Rattle.entries.specs.Entering.{clashes, is_other, share_key}
+use Rattle.entry_model.specs.Entering.{clashes, is_other, share_key}
 use Rattle.index.specs.KeyTexts.{encoded_keys}
-use Rattle.entries.specs.LawfulState.{IsStorable}
+use Rattle.entry_model.specs.LawfulState.{IsStorable}
 use Rattle.entries.specs.OtherKeys.{another_has}
-use Rattle.entries.specs.State.{Collection, find_collection, key_of}
-use Rattle.entries.specs.StateReads.{SpellsLawful}
-use Rattle.entries.proofs.MemberLemmas.{Among, contains_of}
+use Rattle.entry_model.specs.State.{Collection, find_collection, key_of}
+use Rattle.entry_model.specs.StateReads.{SpellsLawful}
+use Rattle.entry_model.proofs.MemberLemmas.{Among, contains_of}
 use Rattle.entries.proofs.OtherKeyLaws.{tells_other_key}
 use Rattle.entries.proofs.SharedKeyLemmas.{is_there, swapped}
 use Rattle.collections.specs.OtherKeys.{any_other_key, is_taken}

@@ -15,8 +15,8 @@ use Rattle.path.specs.declared.refusal.Refusal.{Refusal}
 use Rattle.path.specs.declared.refusal.Refusal.TheVariants as refusals
 use Rattle.index.specs.Definition.{Definition}
 use Rattle.entries.specs.OtherKeys.{IsEndOf, has_other_key, is_another}
-use Rattle.entries.specs.State.{Collection}
-use Rattle.entries.specs.StateEntries.{key_under}
+use Rattle.entry_model.specs.State.{Collection}
+use Rattle.entry_model.specs.StateEntries.{key_under}
 use Rattle.index.specs.View.{texts_of}
 use Rattle.entries.proofs.OtherEditLaws.{in_range}
 use Rattle.collections.specs.Calls.{ExtendsTurn, HasCause}

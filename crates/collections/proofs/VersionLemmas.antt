@@ -27,8 +27,8 @@ use Rattle.pager.proofs.CapacityLemmas.{has_times}
 use Rattle.pager.proofs.MemberLemmas.{times_append, times_reverse}
 use Rattle.pager.proofs.StayLemmas.{versions_stay as pages_stay}
 use Rattle.entries.proofs.OneStateLaws.{spells_one}
-use Rattle.entries.specs.State.{Collection}
-use Rattle.entries.specs.StateEntries.{Spells}
+use Rattle.entry_model.specs.State.{Collection}
+use Rattle.entry_model.specs.StateEntries.{Spells}
 use Rattle.collections.specs.Calls.{ExtendsTurn}
 use Rattle.collections.specs.Laws.{HasOneVersion}
 use Rattle.collections.specs.Standing.{IsTurnOf}

@@ -20,12 +20,12 @@ use Rattle.btree.specs.declared.scanning.Entry.{Entry as OwnEntry}
 use Rattle.btree.specs.declared.scanning.Range.{Range}
 use Rattle.tree_model.proofs.KeyLemmas.{not_under_itself}
 use Rattle.entries.specs.Batches.{documents_at}
-use Rattle.entries.specs.LawfulState.{IsKept, IsStorable}
-use Rattle.entries.specs.State.{Collection}
-use Rattle.entries.specs.StateEntries.{document_entry, key_under}
-use Rattle.entries.specs.StateReads.{SpellsLawful}
+use Rattle.entry_model.specs.LawfulState.{IsKept, IsStorable}
+use Rattle.entry_model.specs.State.{Collection}
+use Rattle.entry_model.specs.StateEntries.{document_entry, key_under}
+use Rattle.entry_model.specs.StateReads.{SpellsLawful}
 use Rattle.entries.proofs.BatchLaws.{all_documents, goes_on_behind, lists_documents_from}
-use Rattle.entries.proofs.FoundLawLemmas.{found_collection}
+use Rattle.entry_model.proofs.FoundLawLemmas.{found_collection}
 use Rattle.pager.specs.Capacity.{TreesFit}
 use Rattle.path.specs.declared.refusal.Refusal.{Refusal}
 use Rattle.collections.specs.Calls.{Reads}

@@ -14,8 +14,8 @@ use Rattle.tree_model.specs.Keys.{Entry, IsNotUnder, is_within, keep_if, key_cmp
 use Rattle.btree.specs.declared.folding.Bounds.{Bounds}
 use Rattle.tree_model.proofs.KeyLemmas.{under_trans}
 use Rattle.entries.specs.Batches.{documents_at}
-use Rattle.entries.specs.State.{key_of}
-use Rattle.entries.specs.StateEntries.{document_entry, key_under}
+use Rattle.entry_model.specs.State.{key_of}
+use Rattle.entry_model.specs.StateEntries.{document_entry, key_under}
 use Rattle.entries.proofs.BatchLaws.{not_below_first}
 use Rattle.entries.proofs.WindowLemmas.{under_cmp}
 use Rattle.collections.specs.Folding.{documents_within, end_under, lies_within}

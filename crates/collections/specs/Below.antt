@@ -4,9 +4,9 @@ use Rattle.page.specs.History.{History, KeepsWord}
 use Rattle.tree_model.specs.Keys.{Entry}
 use Rattle.tree_model.specs.Reach.{HasMap}
 use Rattle.path.specs.declared.refusal.Refusal.{Refusal}
-use Rattle.entries.specs.LawfulState.{IsLawfulState}
-use Rattle.entries.specs.State.{Collection}
-use Rattle.entries.specs.StateEntries.{Spells}
+use Rattle.entry_model.specs.LawfulState.{IsLawfulState}
+use Rattle.entry_model.specs.State.{Collection}
+use Rattle.entry_model.specs.StateEntries.{Spells}
 use Rattle.collections.specs.Calls.{ExtendsTurn, HasReadCause, IsUnchanged}
 use Rattle.collections.specs.Standing.{HasState}
 use Rattle.collections.specs.State.{State}

@@ -8,7 +8,7 @@ use Rattle.roots.specs.Store.{durable_root}
 use Rattle.roots.specs.declared.counting.PageCounts.{PageCounts}
 use Rattle.roots.specs.declared.opening.OpenFault.{OpenFault}
 use Rattle.roots.specs.declared.opening.OpenFault.TheVariants as faults
-use Rattle.entries.specs.State.{Collection}
+use Rattle.entry_model.specs.State.{Collection}
 use Rattle.collections.specs.Calls.{ExtendsTurn, HasFailed}
 use Rattle.collections.specs.Entries.{HasEntries}
 use Rattle.collections.specs.Holding.{HoldsState}

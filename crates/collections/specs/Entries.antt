@@ -9,7 +9,7 @@ use Rattle.tree_model.specs.Reach.{HasMap}
 use Rattle.btree.specs.Scan.{entry_in}
 use Rattle.btree.specs.declared.scanning.Batch.{Batch}
 use Rattle.btree.specs.declared.scanning.Entry.{Entry as OwnEntry}
-use Rattle.entries.specs.State.{Collection}
+use Rattle.entry_model.specs.State.{Collection}
 use Rattle.path.specs.declared.refusal.Refusal.{Refusal}
 use Rattle.path.specs.declared.refusal.Refusal.TheVariants as refusals
 use Rattle.collections.specs.Calls.{ExtendsTurn, HasCause}

@@ -10,9 +10,9 @@ use Rattle.bson.specs.Tree.{Pairs}
 use Rattle.value_order.specs.KeyText.{tree_text}
 use Rattle.tree_model.specs.Keys.{Entry, is_within, key_cmp}
 use Rattle.btree.specs.declared.folding.Bounds.{Bounds}
-use Rattle.entries.specs.LawfulState.{IsStorable}
-use Rattle.entries.specs.State.{key_of}
-use Rattle.entries.specs.StateEntries.{key_under}
+use Rattle.entry_model.specs.LawfulState.{IsStorable}
+use Rattle.entry_model.specs.State.{key_of}
+use Rattle.entry_model.specs.StateEntries.{key_under}
 use Rattle.path.specs.declared.refusal.Refusal.{Refusal}
 use Rattle.path.specs.declared.refusal.Refusal.TheVariants as refusals
 use Rattle.collections.specs.declared.folding.Lending.{Lending}

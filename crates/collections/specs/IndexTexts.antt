@@ -11,7 +11,7 @@ use Rattle.value_order.specs.KeyText.{tree_text}
 use Rattle.tree_model.specs.Keys.{Entry, Rises, key_cmp}
 use Rattle.index.specs.Definition.{Definition}
 use Rattle.index.specs.KeyTexts.{encoded_keys}
-use Rattle.entries.specs.State.{Collection, key_of}
+use Rattle.entry_model.specs.State.{Collection, key_of}
 use Rattle.collections.specs.Reading.{IsNumbered}
 
 -- ---- of entries

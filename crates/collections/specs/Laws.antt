@@ -3,7 +3,7 @@ use Rattle.std.specs.Prelude.{◌≡◌, ◌≢◌, ℕ, false, List, [], replic
 use Rattle.page.specs.History.{History, KeepsWord}
 use Rattle.page.specs.Crash.{CrashLeaves}
 use Rattle.roots.specs.declared.counting.PageCounts.{PageCounts}
-use Rattle.entries.specs.State.{Collection}
+use Rattle.entry_model.specs.State.{Collection}
 use Rattle.pager.specs.declared.version.Version.{Version}
 use Rattle.path.specs.declared.refusal.Refusal.{Refusal}
 use Rattle.path.specs.declared.refusal.Refusal.TheVariants as refusals

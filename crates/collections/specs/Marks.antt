@@ -2,7 +2,7 @@
 use Rattle.std.specs.Prelude.{◌≡◌, false, List, length}
 use Rattle.page.specs.History.{History}
 use Rattle.pager.specs.Turn.{IsOrderly}
-use Rattle.entries.specs.State.{Collection}
+use Rattle.entry_model.specs.State.{Collection}
 use Rattle.collections.specs.State.{State}
 use Rattle.collections.specs.declared.mark.Mark.{Mark}
 use Rattle.collections.specs.Calls.{ExtendsTurn}

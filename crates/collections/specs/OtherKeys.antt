@@ -3,8 +3,8 @@ use Rattle.std.specs.Prelude.{◌≡◌, ℕ, Bool, false, ◌&&◌, ◌||◌, L
 use Rattle.tree_model.specs.Keys.{Edit, Entry, change, value_at}
 use Rattle.index.specs.Definition.{Definition}
 use Rattle.entries.specs.OtherKeys.{has_other_key}
-use Rattle.entries.specs.State.{Collection}
-use Rattle.entries.specs.StateEntries.{key_under}
+use Rattle.entry_model.specs.State.{Collection}
+use Rattle.entry_model.specs.StateEntries.{key_under}
 use Rattle.collections.specs.Reading.{IsInTree}
 
 -- Right for the map that the edits make of the one which spells the collections: an entry of the

@@ -3,9 +3,9 @@ use Rattle.std.specs.Prelude.{◌≡◌, ℕ, List, Option, Some, IfSome, IsSome
 use Rattle.std.specs.Option.{option_map}
 use Rattle.page.specs.History.{History, KeepsWord}
 use Rattle.entries.specs.declared.catalogue_reading.Catalogued.{Catalogued}
-use Rattle.entries.specs.LawfulState.{IsKept}
-use Rattle.entries.specs.State.{Collection, find_collection}
-use Rattle.entries.specs.StateEntries.{catalogue_entry}
+use Rattle.entry_model.specs.LawfulState.{IsKept}
+use Rattle.entry_model.specs.State.{Collection, find_collection}
+use Rattle.entry_model.specs.StateEntries.{catalogue_entry}
 use Rattle.collections.specs.Below.{HasBelow}
 use Rattle.collections.specs.Reading.{IsWithinLimits, catalogued_in, catalogued_of}
 use Rattle.collections.specs.State.{State}

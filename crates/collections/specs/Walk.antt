@@ -5,8 +5,8 @@ use Rattle.std.specs.Option.{option_map}
 use Rattle.bson.specs.Tree.{Pairs}
 use Rattle.tree_model.specs.Keys.{Each, IsNotUnder, IsUnder}
 use Rattle.btree.specs.declared.scanning.Entry.{Entry as OwnEntry}
-use Rattle.entries.specs.State.{Collection}
-use Rattle.entries.specs.StateEntries.{document_entry, key_under}
+use Rattle.entry_model.specs.State.{Collection}
+use Rattle.entry_model.specs.StateEntries.{document_entry, key_under}
 use Rattle.page.specs.History.{History, KeepsWord}
 use Rattle.collections.specs.declared.walk.Walk.{Walk}
 use Rattle.collections.specs.Reading.{AreEach, IsNumbered, IsOfDocument}

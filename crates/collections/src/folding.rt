@@ -6,7 +6,7 @@ ghost use Rattle.bson_bytes.specs.Raw.{document_spelled};
 ghost use Rattle.bson.specs.Spelling.{frame_of, pairs_bytes};
 ghost use Rattle.bson.specs.Tree.{Pairs};
 ghost use Rattle.btree.specs.Fold.{HasTaken as HasTakenEntries, between};
-ghost use Rattle.entries.specs.LawfulState.{IsStorable};
+ghost use Rattle.entry_model.specs.LawfulState.{IsStorable};
 ghost use Rattle.collections.specs.Below.{IsNothing, ReadsBelow};
 ghost use Rattle.collections.specs.Folding.{HasTaken, IsFolded, Lends, documents_within, end_under};
 ghost use Rattle.collections.specs.Reading.{IsInTree, IsNumbered, LooksUp, ReadsOf};

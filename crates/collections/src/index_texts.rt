@@ -5,7 +5,7 @@ ghost use Rattle.std.specs.Option.{option_to_list};
 ghost use Rattle.btree.specs.Fold.{between, entry_at};
 ghost use Rattle.tree_model.specs.Keys.{Entry};
 ghost use Rattle.entries.specs.OtherKeys.{IsEndOf};
-ghost use Rattle.entries.specs.StateEntries.{key_under};
+ghost use Rattle.entry_model.specs.StateEntries.{key_under};
 ghost use Rattle.index.specs.View.{texts_of};
 ghost use Rattle.collections.specs.Below.{IsNothing, ReadsBelow};
 ghost use Rattle.collections.specs.IndexTexts.{AreFirstTexts, AreNextTexts, AreTextsBetween, IsNumberedIndex, next_behind, text_behind};

@@ -1,9 +1,9 @@
 //! What the catalogue said last, so that what it says again isn't looked up, nor decoded.
 
 ghost use Rattle.std.specs.Prelude.{◌≡◌, true, IfOk, IfSome, IsSomeAnd, MatchResult, Some, None};
-ghost use Rattle.entries.specs.LawfulState.{IsKept};
-ghost use Rattle.entries.specs.State.{Collection};
-ghost use Rattle.entries.specs.StateEntries.{catalogue_entry};
+ghost use Rattle.entry_model.specs.LawfulState.{IsKept};
+ghost use Rattle.entry_model.specs.State.{Collection};
+ghost use Rattle.entry_model.specs.StateEntries.{catalogue_entry};
 ghost use Rattle.collections.specs.Reading.{IsWithinLimits, OrMemory, catalogued_in, catalogued_of};
 ghost use Rattle.collections.specs.Remembering.{IsOf, IsToldBy, TellsAgain};
 

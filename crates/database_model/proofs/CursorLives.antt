@@ -30,7 +30,7 @@ use Rattle.command_model.specs.Command.{Command, ping, hello, insert, find, get_
 use Rattle.command_model.specs.Command.{list_collections, create_indexes, drop_indexes, list_indexes, explain, command_of}
 use Rattle.aggregate_model.specs.Pipeline.{run as after_pipeline}
 use Rattle.database_model.specs.World.{collection_of, World, Cursor, documents_of, with_documents, at_rest, untouched, without_cursors}
-use Rattle.entries.specs.State.{Collection, find_collection, put_collection}
+use Rattle.entry_model.specs.State.{Collection, find_collection, put_collection}
 use Rattle.database_model.specs.Documents.{insert_all}
 use Rattle.database_model.specs.Refusals.{int}
 use Rattle.database_model.specs.Insert.{is_full}

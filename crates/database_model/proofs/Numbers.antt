@@ -5,9 +5,9 @@ use Rattle.std.specs.Prelude.{◌==◌, ◌||◌, ◌&&◌, nat_le, if◌then◌
 use Rattle.std.specs.Str.{bytes_eq}
 use Rattle.std.proofs.lemmas.Bool.Decides.{nat_tests}
 use Rattle.database_model.specs.World.{unused_from, unused, number_or}
-use Rattle.entries.specs.State.{Collection, find_collection, uses}
+use Rattle.entry_model.specs.State.{Collection, find_collection, uses}
 use Rattle.database_model.specs.Lawful.{IsKept}
-use Rattle.entries.specs.LawfulState.{AreNumberedApart}
+use Rattle.entry_model.specs.LawfulState.{AreNumberedApart}
 use Rattle.database_model.specs.Places.{collection_at}
 
 -- ---- among one number more than there are collections one is not in use

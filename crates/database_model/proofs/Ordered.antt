@@ -20,7 +20,7 @@ use Rattle.std.proofs.lemmas.Map.Text.{is_eq-slice_cmp}
 use Rattle.bson.specs.Tree.{Tree, Pairs}
 use Rattle.value_order.specs.Order.{compare}
 use Rattle.value_order.specs.TotalLaws.{compare_total}
-use Rattle.entries.specs.State.{Collection, by_order, find_collection, put_collection, without_collection}
+use Rattle.entry_model.specs.State.{Collection, by_order, find_collection, put_collection, without_collection}
 use Rattle.database_model.specs.Documents.{key_of, place}
 use Rattle.database_model.specs.Places.{IsGap, IsPlace, by_key, by_name, no_collection, IsNamedAt}
 

@@ -16,7 +16,7 @@ use Rattle.path.specs.declared.fault.PathFault.{PathFault}
 use Rattle.path.specs.declared.fault.PathFault.TheVariants as faults
 use Rattle.index.specs.Definition.{Field, Definition, IsPath, IsDefinition}
 use Rattle.index.specs.IndexKeys.{is_multikey, noted}
-use Rattle.entries.specs.State.{Collection, find_collection}
+use Rattle.entry_model.specs.State.{Collection, find_collection}
 use Rattle.database_model.specs.DropIndexes.{is_dropped, left_by, remaining}
 use Rattle.database_model.specs.Lawful.{AreShortIndexes, IsKept, IsShortIndex}
 use Rattle.database_model.specs.World.{indexes_or_none}

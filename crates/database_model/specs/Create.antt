@@ -6,7 +6,7 @@ use Rattle.path.specs.declared.refusal.Refusal.{Refusal}
 use Rattle.path.specs.declared.refusal.Refusal.TheVariants as refusals
 use Rattle.command_model.specs.Create.{Create}
 use Rattle.database_model.specs.World.{World, with_documents}
-use Rattle.entries.specs.State.{Collection, find_collection, put_collection}
+use Rattle.entry_model.specs.State.{Collection, find_collection, put_collection}
 
 -- the collections with an empty one more
 abbrev pub created : List Collection → List ℕ → Result (List Collection) Refusal

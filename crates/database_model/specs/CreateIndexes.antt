@@ -13,8 +13,8 @@ use Rattle.path.specs.declared.refusal.Refusal.TheVariants as refusals
 use Rattle.command_model.specs.CreateIndexes.{CreateIndexes}
 use Rattle.command_model.specs.NewIndex.{NewIndex, defined}
 use Rattle.index.specs.Definition.{Field, Definition}
-use Rattle.entries.specs.IndexMaking.{with_index}
-use Rattle.entries.specs.State.{Collection, empty_collection, find_collection, put_collection}
+use Rattle.entry_model.specs.WithIndex.{with_index}
+use Rattle.entry_model.specs.State.{Collection, empty_collection, find_collection, put_collection}
 use Rattle.database_model.specs.DropCollection.{index_count}
 use Rattle.database_model.specs.Insert.{is_full}
 use Rattle.database_model.specs.Refusals.{int}

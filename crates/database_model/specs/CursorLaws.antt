@@ -5,7 +5,7 @@ use Rattle.std.specs.Prelude.{◌≡◌, ◌⊎◌, ℕ, true, List, [], ◌∷�
 use Rattle.bson.specs.Tree.{Pairs}
 use Rattle.bson_bytes.specs.declared.fault.BsonFault.{BsonFault}
 use Rattle.database_model.specs.World.{World, Cursor, are_untouched, after_undo}
-use Rattle.entries.specs.State.{Collection}
+use Rattle.entry_model.specs.State.{Collection}
 use Rattle.database_model.specs.Step.{step}
 
 -- a cursor is one of these, with the documents that it has

@@ -9,7 +9,7 @@ use Rattle.path.specs.declared.refusal.Refusal.{Refusal}
 use Rattle.command_model.specs.Command.{Command, get_more, command_of}
 use Rattle.command_model.specs.GetMore.{GetMore}
 use Rattle.database_model.specs.World.{World, Cursor, forget, after_commit, after_undo}
-use Rattle.entries.specs.State.{Collection}
+use Rattle.entry_model.specs.State.{Collection}
 use Rattle.database_model.specs.Cursors.{is_cursor, cursor_at, number_after}
 use Rattle.database_model.specs.GetMore.{batch_len_of}
 use Rattle.database_model.specs.Step.{step}

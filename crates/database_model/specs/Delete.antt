@@ -7,7 +7,7 @@ use Rattle.filter.specs.Matches.{matches}
 use Rattle.path.specs.declared.refusal.Refusal.{Refusal}
 use Rattle.command_model.specs.Delete.{Deletion, Delete}
 use Rattle.database_model.specs.World.{World, documents_of}
-use Rattle.entries.specs.State.{Collection, find_collection, put_collection}
+use Rattle.entry_model.specs.State.{Collection, find_collection, put_collection}
 use Rattle.database_model.specs.Refusals.{total}
 
 -- the list without the element of an index

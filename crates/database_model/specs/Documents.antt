@@ -6,8 +6,8 @@ use Rattle.value_order.specs.KeyText.{tree_text}
 use Rattle.bson.specs.Tree.{Tree, scalar, null, Pairs}
 use Rattle.bson.specs.Lookup.{lookup}
 use Rattle.update_model.specs.Stored.{limits_fault, pairs_fault, id_name, id_of, id_first}
-use Rattle.entries.specs.Entering.{entered}
-use Rattle.entries.specs.State.{Collection, by_order}
+use Rattle.entry_model.specs.Entering.{entered}
+use Rattle.entry_model.specs.State.{Collection, by_order}
 use Rattle.outcome.specs.Outcome.{◌>>=◌, unless, or_refused}
 use Rattle.path.specs.declared.refusal.Refusal.{Refusal}
 use Rattle.path.specs.declared.refusal.Refusal.TheVariants as refusals

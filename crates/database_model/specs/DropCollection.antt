@@ -6,7 +6,7 @@ use Rattle.path.specs.declared.refusal.Refusal.{Refusal}
 use Rattle.path.specs.declared.refusal.Refusal.TheVariants as refusals
 use Rattle.command_model.specs.DropCollection.{DropCollection}
 use Rattle.database_model.specs.World.{World, indexes_or_none}
-use Rattle.entries.specs.State.{Collection, find_collection, without_collection}
+use Rattle.entry_model.specs.State.{Collection, find_collection, without_collection}
 use Rattle.database_model.specs.Refusals.{int, words}
 
 -- the collections without the one of this name

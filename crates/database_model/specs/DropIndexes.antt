@@ -9,7 +9,7 @@ use Rattle.path.specs.declared.refusal.Refusal.{Refusal}
 use Rattle.path.specs.declared.refusal.Refusal.TheVariants as refusals
 use Rattle.command_model.specs.DropIndexes.{DropIndexes, DroppedIndexes, all, named}
 use Rattle.index.specs.Definition.{Definition}
-use Rattle.entries.specs.State.{Collection, find_collection, put_collection}
+use Rattle.entry_model.specs.State.{Collection, find_collection, put_collection}
 use Rattle.database_model.specs.DropCollection.{index_count}
 use Rattle.database_model.specs.Refusals.{int}
 use Rattle.database_model.specs.World.{World}

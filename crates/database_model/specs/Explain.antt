@@ -4,9 +4,9 @@ use Rattle.bson.specs.Tree.{Pairs, no_pairs, pair}
 use Rattle.path.specs.declared.refusal.Refusal.{Refusal}
 use Rattle.command_model.specs.Find.{Query}
 use Rattle.command_model.specs.Explain.{Explain}
-use Rattle.entries.specs.State.{Collection, find_collection}
-use Rattle.planner.specs.Plan.{Plan, scan, choose}
-use Rattle.planner.specs.Explaining.{explain_text}
+use Rattle.entry_model.specs.State.{Collection, find_collection}
+use Rattle.plan_model.specs.Plan.{Plan, scan, choose}
+use Rattle.plan_model.specs.Explaining.{explain_text}
 use Rattle.database_model.specs.Refusals.{words}
 use Rattle.database_model.specs.World.{World}
 

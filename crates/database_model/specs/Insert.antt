@@ -6,7 +6,7 @@ use Rattle.path.specs.declared.refusal.Refusal.{Refusal}
 use Rattle.path.specs.declared.refusal.Refusal.TheVariants as refusals
 use Rattle.command_model.specs.Insert.{Insert}
 use Rattle.database_model.specs.World.{World, collection_of}
-use Rattle.entries.specs.State.{Collection, find_collection, put_collection}
+use Rattle.entry_model.specs.State.{Collection, find_collection, put_collection}
 use Rattle.database_model.specs.Documents.{insert_all}
 use Rattle.database_model.specs.Refusals.{int}
 

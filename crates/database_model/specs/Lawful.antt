@@ -12,8 +12,8 @@ use Rattle.bson.specs.Lawful.{pairs_levels, IsDocument}
 use Rattle.bson.specs.Spelling.{frame_of, pairs_bytes}
 use Rattle.index.specs.Definition.{Definition}
 use Rattle.index.specs.DefinitionCode.{definition_code}
-use Rattle.entries.specs.State.{Collection}
-use Rattle.entries.specs.LawfulState.{IsRising, AreNamedApart, AreNumberedApart}
+use Rattle.entry_model.specs.State.{Collection}
+use Rattle.entry_model.specs.LawfulState.{IsRising, AreNamedApart, AreNumberedApart}
 use Rattle.database_model.specs.World.{World, Cursor, CursorTable}
 use Rattle.database_model.specs.Documents.{key_of}
 use Rattle.update_model.specs.Stored.{pairs_fault, id_first, id_of}

@@ -6,7 +6,7 @@ use Rattle.bson.specs.Tree.{Pairs, no_pairs, pair}
 use Rattle.path.specs.declared.refusal.Refusal.{Refusal}
 use Rattle.command_model.specs.ListCollections.{ListCollections}
 use Rattle.database_model.specs.World.{World}
-use Rattle.entries.specs.State.{Collection}
+use Rattle.entry_model.specs.State.{Collection}
 use Rattle.database_model.specs.Cursors.{cursor_reply}
 use Rattle.database_model.specs.Refusals.{words}
 

@@ -7,7 +7,7 @@ use Rattle.path.specs.declared.refusal.Refusal.{Refusal}
 use Rattle.path.specs.declared.refusal.Refusal.TheVariants as refusals
 use Rattle.command_model.specs.ListIndexes.{ListIndexes}
 use Rattle.index.specs.Definition.{Definition, key_document}
-use Rattle.entries.specs.State.{find_collection}
+use Rattle.entry_model.specs.State.{find_collection}
 use Rattle.database_model.specs.Cursors.{cursor_reply}
 use Rattle.database_model.specs.Refusals.{int, words}
 use Rattle.database_model.specs.World.{World}

@@ -12,8 +12,8 @@ use Rattle.path.specs.declared.refusal.Refusal.{Refusal}
 use Rattle.path.specs.declared.refusal.Refusal.TheVariants as refusals
 use Rattle.command_model.specs.Delete.{Deletion}
 use Rattle.command_model.specs.Update.{UpdateStatement}
-use Rattle.entries.specs.Documents.{put_document}
-use Rattle.entries.specs.State.{Collection, put_collection}
+use Rattle.entry_model.specs.Documents.{put_document}
+use Rattle.entry_model.specs.State.{Collection, put_collection}
 use Rattle.database_model.specs.Documents.{key_of, place}
 use Rattle.database_model.specs.Update.{counted, Changed, update_from, Updated, upsert_document}
 use Rattle.database_model.specs.Update.{upserted_entry}

@@ -8,7 +8,7 @@ use Rattle.std.specs.Cmp.Lexicographic.{slice_cmp}
 use Rattle.std.specs.declared.cmp.Ordering.{Ordering}
 use Rattle.std.specs.declared.cmp.Ordering.TheVariants as orders
 use Rattle.bson.specs.Tree.{Tree, Pairs}
-use Rattle.entries.specs.State.{Collection, empty_collection, find_collection, put_collection}
+use Rattle.entry_model.specs.State.{Collection, empty_collection, find_collection, put_collection}
 use Rattle.database_model.specs.Documents.{key_of, place}
 
 -- what stands before a place is less by this comparison, and what stands from it on is greater

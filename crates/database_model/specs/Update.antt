@@ -16,7 +16,7 @@ use Rattle.path.specs.declared.refusal.Refusal.{Refusal}
 use Rattle.path.specs.declared.refusal.Refusal.TheVariants as refusals
 use Rattle.command_model.specs.Update.{UpdateStatement}
 use Rattle.database_model.specs.World.{documents_of, with_documents}
-use Rattle.entries.specs.State.{Collection, find_collection, put_collection}
+use Rattle.entry_model.specs.State.{Collection, find_collection, put_collection}
 use Rattle.database_model.specs.Documents.{key_of, key_checked, place}
 use Rattle.database_model.specs.Refusals.{int, total, ok_reply}
 

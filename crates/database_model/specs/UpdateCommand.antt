@@ -5,8 +5,8 @@ use Rattle.outcome.specs.Outcome.{◌>>=◌, unless}
 use Rattle.path.specs.declared.refusal.Refusal.{Refusal}
 use Rattle.path.specs.declared.refusal.Refusal.TheVariants as refusals
 use Rattle.command_model.specs.Update.{UpdateStatement, Update}
-use Rattle.entries.specs.Entering.{DocumentWrite, enter_each}
-use Rattle.entries.specs.State.{Collection, put_collection}
+use Rattle.entry_model.specs.Entering.{DocumentWrite, enter_each}
+use Rattle.entry_model.specs.State.{Collection, put_collection}
 use Rattle.database_model.specs.Insert.{is_full}
 use Rattle.database_model.specs.Update.{run_all, update_reply}
 use Rattle.database_model.specs.World.{World, collection_of, documents_of}

@@ -4,7 +4,7 @@ use Rattle.std.specs.Prelude.{map, Option, Some, None}
 use Rattle.std.specs.List.{filter, list_all}
 use Rattle.bson.specs.Tree.{Pairs}
 use Rattle.index.specs.Definition.{Definition}
-use Rattle.entries.specs.State.{Collection, find_collection, uses}
+use Rattle.entry_model.specs.State.{Collection, find_collection, uses}
 
 -- Documents that a connection has not been given yet. A cursor is touched where the running turn
 -- opened or advanced it.

@@ -9,7 +9,7 @@ use Rattle.filter.specs.Matches.{matches}
 use Rattle.update_model.specs.Applying.{apply}
 use Rattle.update_model.specs.Update.{Update as Change}
 use Rattle.command_model.specs.Update.{UpdateStatement}
-use Rattle.entries.specs.Entering.{DocumentWrite}
+use Rattle.entry_model.specs.Entering.{DocumentWrite}
 use Rattle.database_model.specs.Merging.{Listed, made_of, not_listed, run_listed}
 use Rattle.database_model.specs.Update.{spelled}
 

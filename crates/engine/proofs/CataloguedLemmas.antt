@@ -4,9 +4,9 @@ use Rattle.std.specs.Prelude.{unwrap_or}
 use Rattle.std.specs.Option.{option_map}
 use Rattle.collections.specs.Reading.{catalogued_in, catalogued_of}
 use Rattle.index.specs.Definition.{Definition}
-use Rattle.entries.specs.State.{Collection, find_collection}
+use Rattle.entry_model.specs.State.{Collection, find_collection}
 use Rattle.entries.specs.declared.catalogue_reading.Catalogued.{Catalogued}
-use Rattle.entries.proofs.PlaceLemmas.{found_name}
+use Rattle.entry_model.proofs.PlaceLemmas.{found_name}
 use Rattle.engine.specs.TakingOut.{HasHome}
 
 -- it was found, if there is one

@@ -14,9 +14,9 @@ use Rattle.path.specs.declared.refusal.Refusal.{Refusal}
 use Rattle.path.specs.declared.refusal.Refusal.TheVariants as refusals
 use Rattle.command_model.specs.OutcomeLaws.{passed}
 use Rattle.database_model.specs.World.{World, with_documents}
-use Rattle.entries.specs.State.{Collection, find_collection, uses, put_collection, without_collection}
+use Rattle.entry_model.specs.State.{Collection, find_collection, uses, put_collection, without_collection}
 use Rattle.database_model.specs.Lawful.{IsKept, IsLawfulState}
-use Rattle.entries.specs.LawfulState.{AreNamedApart, AreNumberedApart}
+use Rattle.entry_model.specs.LawfulState.{AreNamedApart, AreNumberedApart}
 use Rattle.database_model.specs.Places.{IsThere}
 use Rattle.database_model.specs.Insert.{is_full}
 use Rattle.database_model.specs.Create.{created, run_create}

@@ -11,12 +11,12 @@ use Rattle.path.specs.declared.refusal.Refusal.{Refusal}
 use Rattle.path.specs.declared.refusal.Refusal.TheVariants as refusals
 use Rattle.command_model.specs.NewIndex.{NewIndex}
 use Rattle.collections.proofs.LawLemmas as laws
-use Rattle.entries.specs.LawfulState as states
-use Rattle.entries.specs.State.{Collection, find_collection, put_collection}
-use Rattle.entries.specs.StateEntries.{Leads}
+use Rattle.entry_model.specs.LawfulState as states
+use Rattle.entry_model.specs.State.{Collection, find_collection, put_collection}
+use Rattle.entry_model.specs.StateEntries.{Leads}
 use Rattle.entries.specs.declared.catalogue_reading.Catalogued.{Catalogued}
-use Rattle.entries.proofs.FoundLawLemmas.{finds_put}
-use Rattle.entries.proofs.PlaceLemmas.{found_name}
+use Rattle.entry_model.proofs.FoundLawLemmas.{finds_put}
+use Rattle.entry_model.proofs.PlaceLemmas.{found_name}
 use Rattle.entries.proofs.StateEditLaws.{put_same}
 use Rattle.database_model.specs.CreateIndexes.{create_indexes_reply, indexed, run_create_indexes, with_new_indexes}
 use Rattle.database_model.specs.DropCollection.{index_count}

@@ -16,10 +16,10 @@ use Rattle.filter.specs.Matches.{matches}
 use Rattle.bson.specs.Lawful.{IsDocument}
 use Rattle.value_order.specs.Order.{compare}
 use Rattle.std.specs.declared.cmp.Ordering.TheVariants as orders
-use Rattle.entries.specs.State.{Collection, find_collection}
+use Rattle.entry_model.specs.State.{Collection, find_collection}
 use Rattle.database_model.specs.Documents.{key_of}
 use Rattle.database_model.specs.Lawful.{IsStored, IsHeld, IsKept, IsLawfulState}
-use Rattle.entries.specs.LawfulState.{AreNamedApart}
+use Rattle.entry_model.specs.LawfulState.{AreNamedApart}
 use Rattle.database_model.proofs.Ordered.{missing, found, replaced}
 use Rattle.database_model.proofs.Located.{Gap, There, located}
 use Rattle.statements.proofs.NamesApart.{apart_set}

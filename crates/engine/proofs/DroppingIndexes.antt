@@ -14,18 +14,19 @@ use Rattle.collections.proofs.LawLemmas as laws
 use Rattle.command_model.specs.DropIndexes.{DroppedIndexes}
 use Rattle.index.specs.Definition.{Definition}
 use Rattle.entries.specs.IndexBuilding.{HasRemovedEntries}
-use Rattle.entries.specs.IndexMaking.{DropsIndexAt, without_index_at}
+use Rattle.entries.specs.IndexMaking.{DropsIndexAt}
+use Rattle.entry_model.specs.WithIndex.{without_index_at}
 use Rattle.index.specs.KeyTexts.{encoded_keys, keys_in}
-use Rattle.entries.specs.LawfulState as states
-use Rattle.entries.specs.State.{Collection, find_collection, put_collection}
-use Rattle.entries.specs.StateEntries.{Leads}
+use Rattle.entry_model.specs.LawfulState as states
+use Rattle.entry_model.specs.State.{Collection, find_collection, put_collection}
+use Rattle.entry_model.specs.StateEntries.{Leads}
 use Rattle.entries.specs.declared.catalogue_reading.Catalogued.{Catalogued}
-use Rattle.entries.proofs.FoundLawLemmas.{finds_put, put_twice}
-use Rattle.entries.proofs.HomeLemmas.{kept_of, listed_of, storable_of}
-use Rattle.entries.proofs.IndexMakingLaws.{cut_at}
-use Rattle.entries.proofs.LawfulLaws.{all_of}
-use Rattle.entries.proofs.MemberLemmas.{Among, among_back, of_all}
-use Rattle.entries.proofs.PlaceLemmas.{found_in, found_name}
+use Rattle.entry_model.proofs.FoundLawLemmas.{finds_put, put_twice}
+use Rattle.entry_model.proofs.LawfulParts.{kept_of, listed_of, storable_of}
+use Rattle.entry_model.proofs.KeptSteps.{cut_at}
+use Rattle.entry_model.proofs.LawfulLaws.{all_of}
+use Rattle.entry_model.proofs.MemberLemmas.{Among, among_back, of_all}
+use Rattle.entry_model.proofs.PlaceLemmas.{found_in, found_name}
 use Rattle.entries.proofs.StateEditLaws.{put_same}
 use Rattle.database_model.specs.DropCollection.{index_count}
 use Rattle.database_model.specs.DropIndexes.{dropped_in, drop_indexes_reply, index_dropped, is_dropped, left_by, remaining, run_drop_indexes}

@@ -17,14 +17,14 @@ use Rattle.collections.specs.declared.walk.Walk.{Walk}
 use Rattle.collections.proofs.StandingLemmas.{stopped_same}
 use Rattle.outcome.specs.Outcome.{unless}
 use Rattle.index.specs.Definition.{Definition}
-use Rattle.entries.specs.Documents.{RemovesCollection, with_documents}
-use Rattle.entries.specs.LawfulState.{AreNamedApart, IsLawfulState}
-use Rattle.entries.specs.State.{Collection, find_collection, without_collection}
-use Rattle.entries.specs.StateEntries.{Leads}
+use Rattle.entry_model.specs.Documents.{RemovesCollection, with_documents}
+use Rattle.entry_model.specs.LawfulState.{AreNamedApart, IsLawfulState}
+use Rattle.entry_model.specs.State.{Collection, find_collection, without_collection}
+use Rattle.entry_model.specs.StateEntries.{Leads}
 use Rattle.entries.specs.declared.catalogue_reading.Catalogued.{Catalogued}
-use Rattle.entries.proofs.FoundLawLemmas.{finds_put, put_twice, without_put}
-use Rattle.entries.proofs.HomeLemmas.{kept_of}
-use Rattle.entries.proofs.PlaceLemmas.{found_in, found_name}
+use Rattle.entry_model.proofs.FoundLawLemmas.{finds_put, put_twice, without_put}
+use Rattle.entry_model.proofs.LawfulParts.{kept_of}
+use Rattle.entry_model.proofs.PlaceLemmas.{found_in, found_name}
 use Rattle.entries.proofs.StateEditLaws.{put_same}
 use Rattle.database_model.specs.DropCollection.{drop_reply, dropped, index_count, run_drop}
 use Rattle.engine.specs.Dropping.{HasStepped, IsEmptying, IsFilled, IsLeft}

@@ -20,7 +20,7 @@ use Rattle.pinned_cursors.specs.Tied.{AreTied}
 use Rattle.pinned_cursors.specs.Turns.{OnlyPins}
 use Rattle.pinned_cursors.proofs.TurnTied.{tied_rested}
 use Rattle.database_model.specs.World.{World, Cursor, CursorTable, at_rest, are_untouched, after_commit, after_undo}
-use Rattle.entries.specs.State.{Collection}
+use Rattle.entry_model.specs.State.{Collection}
 use Rattle.engine.proofs.ResultLemmas.{fault_of, not_both}
 use Rattle.engine.proofs.UntouchedCursors.{rested_untouched, untouched_untouched}
 use Rattle.std.proofs.lemmas.List.Elements.{All-filter, All-map}

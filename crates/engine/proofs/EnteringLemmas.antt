@@ -13,24 +13,24 @@ use Rattle.path.specs.declared.refusal.Refusal.TheVariants as refusals
 use Rattle.collections.specs.OtherKeys.{is_taken}
 use Rattle.collections.proofs.TakenLemmas.{taken_told}
 use Rattle.index.specs.Definition.{Definition, Field}
-use Rattle.entries.specs.Entering.{Enters, clashes, is_duplicate, with_document}
+use Rattle.entry_model.specs.Entering.{Enters, clashes, is_duplicate, with_document}
 use Rattle.index.specs.IndexKeys.{has_parallel_arrays, noted}
 use Rattle.index.specs.KeyTexts.{encoded_keys, is_too_long, keys_in, keys_in_all}
-use Rattle.entries.specs.LawfulState as states
-use Rattle.entries.specs.LawfulState.{IsStorable}
-use Rattle.entries.specs.State.{Collection, find_collection, put_collection}
-use Rattle.entries.specs.StateEntries.{Leads, Spells, key_under}
-use Rattle.entries.specs.StateReads.{SpellsLawful, find_document}
+use Rattle.entry_model.specs.LawfulState as states
+use Rattle.entry_model.specs.LawfulState.{IsStorable}
+use Rattle.entry_model.specs.State.{Collection, find_collection, put_collection}
+use Rattle.entry_model.specs.StateEntries.{Leads, Spells, key_under}
+use Rattle.entry_model.specs.StateReads.{SpellsLawful, find_document}
 use Rattle.index.specs.View.{texts_of}
 use Rattle.entries.specs.declared.catalogue_reading.Catalogued.{Catalogued}
-use Rattle.entries.proofs.EnteringLemmas.{has_entered}
-use Rattle.entries.proofs.EntryLemmas.{id_is_key}
-use Rattle.entries.proofs.FoundLawLemmas.{finds_put, put_twice}
+use Rattle.entry_model.proofs.EnteringLemmas.{has_entered}
+use Rattle.entry_model.proofs.LawfulParts.{id_is_key, kept_of}
+use Rattle.entry_model.proofs.FoundLawLemmas.{finds_put, put_twice}
 use Rattle.entries.proofs.IndexedLaws.{known}
-use Rattle.entries.proofs.HomeLemmas.{kept_of}
-use Rattle.entries.proofs.MemberLemmas.{Among, of_all}
-use Rattle.entries.proofs.PlaceLemmas.{found_in}
-use Rattle.entries.proofs.ReadLaws.{document_some, finds_document}
+use Rattle.entry_model.proofs.MemberLemmas.{Among, of_all}
+use Rattle.entry_model.proofs.PlaceLemmas.{found_in}
+use Rattle.entries.proofs.ReadLaws.{finds_document}
+use Rattle.entry_model.proofs.DocumentPlaces.{document_some}
 use Rattle.database_model.specs.Documents.{key_of}
 use Rattle.engine.specs.Storing.{AreNoted, HasNoted, IsReplaced, entering, write_of}
 

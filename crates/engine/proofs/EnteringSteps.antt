@@ -12,13 +12,14 @@ use Rattle.collections.specs.Calls.{HasReadCause, Reads}
 use Rattle.collections.specs.OtherKeys.{TellsDocument, TellsOf, is_taken}
 use Rattle.collections.specs.State.{State}
 use Rattle.index.specs.Definition.{Definition}
-use Rattle.entries.specs.Entering.{AreKeyed, Enters, clashes, is_duplicate}
+use Rattle.entry_model.specs.Entering.{Enters, clashes, is_duplicate}
+use Rattle.entries.specs.KeyedDocuments.{AreKeyed}
 use Rattle.index.specs.IndexKeys.{noted}
 use Rattle.index.specs.KeyTexts.{encoded_keys, keys_in_all}
-use Rattle.entries.specs.LawfulState.{IsStorable}
-use Rattle.entries.specs.State.{Collection}
-use Rattle.entries.specs.StateEntries.{key_under}
-use Rattle.entries.specs.StateReads.{find_document}
+use Rattle.entry_model.specs.LawfulState.{IsStorable}
+use Rattle.entry_model.specs.State.{Collection}
+use Rattle.entry_model.specs.StateEntries.{key_under}
+use Rattle.entry_model.specs.StateReads.{find_document}
 use Rattle.index.specs.View.{texts_of}
 use Rattle.entries.specs.declared.catalogue_reading.Catalogued.{Catalogued}
 use Rattle.entries.specs.declared.entering.Keyed.{Keyed}

@@ -7,10 +7,10 @@ use Rattle.path.specs.declared.refusal.Refusal.{Refusal}
 use Rattle.command_model.specs.Explain.{Explain}
 use Rattle.command_model.specs.Find.{Query}
 use Rattle.index.specs.Definition.{Definition}
-use Rattle.entries.specs.State.{Collection, find_collection}
+use Rattle.entry_model.specs.State.{Collection, find_collection}
 use Rattle.entries.specs.declared.catalogue_reading.Catalogued.{Catalogued}
-use Rattle.planner.specs.Plan.{Plan, scan, choose}
-use Rattle.planner.specs.Explaining.{explain_text}
+use Rattle.plan_model.specs.Plan.{Plan, scan, choose}
+use Rattle.plan_model.specs.Explaining.{explain_text}
 use Rattle.planner.specs.ExplainingLaws.{explain_short}
 use Rattle.database_model.specs.Explain.{explain_reply, plan_in, run_explain}
 use Rattle.database_model.specs.Lawful.{IsShortIndex}

@@ -6,7 +6,7 @@ use Rattle.page.specs.History.{History, KeepsWord, now, reads}
 use Rattle.roots.specs.declared.counting.PageCounts.{PageCounts}
 use Rattle.roots.specs.declared.opening.OpenFault.{OpenFault}
 use Rattle.roots.specs.declared.opening.OpenFault.TheVariants as opening
-use Rattle.entries.specs.State.{Collection}
+use Rattle.entry_model.specs.State.{Collection}
 use Rattle.entries.proofs.OneStateLaws.{spells_one}
 use Rattle.collections.specs.Counting.{CountsPages, HasCountCause, HasCounts}
 use Rattle.collections.specs.Entries.{HasEntries}

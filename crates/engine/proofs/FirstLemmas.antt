@@ -19,12 +19,12 @@ use Rattle.database_model.specs.Cursors.{batch_of, first_batch}
 use Rattle.database_model.specs.Find.{FirstAreEnough, matching, query_result, run_find, selection, window}
 use Rattle.database_model.specs.Lawful.{AreLawfulCursors}
 use Rattle.database_model.specs.World.{World, documents_of}
-use Rattle.entries.specs.State.{key_of}
-use Rattle.entries.specs.StateReads.{find_document}
+use Rattle.entry_model.specs.State.{key_of}
+use Rattle.entry_model.specs.StateReads.{find_document}
 use Rattle.entries.specs.declared.catalogue_reading.Catalogued.{Catalogued}
 use Rattle.index.specs.Definition.{Definition}
 use Rattle.index.specs.View.{texts_of}
-use Rattle.entries.proofs.FoundLawLemmas.{found_collection}
+use Rattle.entry_model.proofs.FoundLawLemmas.{found_collection}
 use Rattle.planner.proofs.AnswerLemmas.{kept_are_noted}
 use Rattle.pinned_cursors.specs.Batches.{ReadsThenPins}
 use Rattle.pinned_cursors.specs.First.{GivesFirst, GivesNone, IsFirstGiven, OrNone}

@@ -6,9 +6,9 @@ use Rattle.std.specs.declared.cmp.Ordering.{Ordering}
 use Rattle.std.specs.declared.cmp.Ordering.TheVariants as orders
 use Rattle.bson.specs.Tree.{Pairs}
 use Rattle.database_model.specs.World.{collection_of, documents_of, documents_or_none}
-use Rattle.entries.specs.State.{Collection, by_order, find_collection, put_collection}
+use Rattle.entry_model.specs.State.{Collection, by_order, find_collection, put_collection}
 use Rattle.outcome.specs.Outcome.{◌>>=◌}
-use Rattle.entries.specs.LawfulState.{IsRising}
+use Rattle.entry_model.specs.LawfulState.{IsRising}
 use Rattle.database_model.specs.Documents.{insert_all}
 use Rattle.database_model.specs.Insert.{is_full, inserted}
 use Rattle.path.specs.declared.refusal.Refusal.{Refusal}

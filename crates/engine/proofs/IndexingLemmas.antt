@@ -12,13 +12,14 @@ use Rattle.collections.specs.State.{State}
 use Rattle.collections.specs.Walk.{BeginsWalk, IsWalk, StepsOn}
 use Rattle.collections.specs.declared.walk.Walk.{Walk}
 use Rattle.collections.proofs.StandingLemmas.{stopped_same}
-use Rattle.entries.specs.IndexMaking.{HasEntries, RefusesNext, TakesNext, with_index}
-use Rattle.entries.specs.LawfulState as states
-use Rattle.entries.specs.LawfulState.{IsStorable}
-use Rattle.entries.specs.State.{Collection, find_collection}
+use Rattle.entries.specs.IndexMaking.{HasEntries, RefusesNext, TakesNext}
+use Rattle.entry_model.specs.WithIndex.{with_index}
+use Rattle.entry_model.specs.LawfulState as states
+use Rattle.entry_model.specs.LawfulState.{IsStorable}
+use Rattle.entry_model.specs.State.{Collection, find_collection}
 use Rattle.entries.specs.declared.making.NewEntries.{NewEntries}
-use Rattle.entries.proofs.MemberLemmas.{Among, among_back, of_all}
-use Rattle.entries.proofs.PlaceLemmas.{found_name}
+use Rattle.entry_model.proofs.MemberLemmas.{Among, among_back, of_all}
+use Rattle.entry_model.proofs.PlaceLemmas.{found_name}
 use Rattle.engine.specs.Durable.{disk_history, IsRunning, IsSound}
 use Rattle.engine.specs.Indexing.{HasIndexed, Indexed, IsIndexed, IsIndexing, IsUnbegun, IsUnindexable, RefusesOne, TakesEach}
 use Rattle.engine.specs.Looking.{Looks, OnlyReads}

@@ -8,15 +8,16 @@ use Rattle.path.specs.declared.refusal.Refusal.{Refusal}
 use Rattle.path.specs.declared.refusal.Refusal.TheVariants as refusals
 use Rattle.command_model.specs.NewIndex.{NewIndex, defined}
 use Rattle.index.specs.Definition.{Definition, IsDefinition}
-use Rattle.entries.specs.IndexMaking.{Begins, MakesIndexOf, with_index}
-use Rattle.entries.specs.LawfulState as states
-use Rattle.entries.specs.State.{Collection, find_collection, put_collection}
-use Rattle.entries.specs.StateEntries.{Leads}
+use Rattle.entries.specs.IndexMaking.{Begins, MakesIndexOf}
+use Rattle.entry_model.specs.WithIndex.{with_index}
+use Rattle.entry_model.specs.LawfulState as states
+use Rattle.entry_model.specs.State.{Collection, find_collection, put_collection}
+use Rattle.entry_model.specs.StateEntries.{Leads}
 use Rattle.entries.specs.declared.catalogue_reading.Catalogued.{Catalogued}
 use Rattle.entries.specs.declared.making.NewEntries.{NewEntries}
-use Rattle.entries.proofs.FoundLawLemmas.{finds_put, put_twice}
-use Rattle.entries.proofs.HomeLemmas.{kept_of}
-use Rattle.entries.proofs.PlaceLemmas.{found_in}
+use Rattle.entry_model.proofs.FoundLawLemmas.{finds_put, put_twice}
+use Rattle.entry_model.proofs.LawfulParts.{kept_of}
+use Rattle.entry_model.proofs.PlaceLemmas.{found_in}
 use Rattle.database_model.specs.CreateIndexes.{is_in_conflict, is_there, unused_index, with_new_index, with_new_indexes}
 use Rattle.engine.specs.Durable.{disk_history, is_stopped, IsRunning, IsSound}
 use Rattle.engine.specs.Indexing.{HasDocumentsOf, Indexed, IsIndexed, IsUnbegun, IsUnindexable}

@@ -11,8 +11,8 @@ use Rattle.std.proofs.lemmas.List.Edits.{length-insert}
 use Rattle.std.proofs.lemmas.List.Elements.{All-set}
 use Rattle.std.proofs.lemmas.Map.Lookups.{exact_bytes}
 use Rattle.database_model.specs.World.{collection_of, unused, number_or, documents_of, documents_or_none}
-use Rattle.entries.specs.State.{Collection, find_collection, uses, put_collection}
-use Rattle.entries.proofs.PlaceLemmas.{found_name}
+use Rattle.entry_model.specs.State.{Collection, find_collection, uses, put_collection}
+use Rattle.entry_model.proofs.PlaceLemmas.{found_name}
 use Rattle.outcome.specs.Outcome.{◌>>=◌}
 use Rattle.statements.proofs.KeptLemmas.{stored_at}
 use Rattle.command_model.specs.NewIndex.{IsShortNewIndex, NewIndex}
@@ -22,7 +22,7 @@ use Rattle.command_model.specs.DropIndexes.{DroppedIndexes}
 use Rattle.database_model.specs.DropIndexes.{dropped_in, index_dropped, left_by, without_indexes}
 use Rattle.database_model.proofs.ShortIndexes.{left_short, short_at}
 use Rattle.database_model.specs.Lawful.{IsStored, IsKept, IsLawfulState}
-use Rattle.entries.specs.LawfulState.{AreNamedApart, AreNumberedApart, IsRising}
+use Rattle.entry_model.specs.LawfulState.{AreNamedApart, AreNumberedApart, IsRising}
 use Rattle.database_model.specs.Places.{collection_at, no_collection}
 use Rattle.database_model.specs.Insert.{is_full}
 use Rattle.path.specs.declared.refusal.Refusal.{Refusal}

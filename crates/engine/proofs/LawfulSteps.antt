@@ -11,7 +11,7 @@ use Rattle.bson.specs.Tree.{Pairs, pair, no_pairs}
 use Rattle.bson.specs.Spelling.{items_bytes}
 use Rattle.bson_bytes.specs.declared.fault.BsonFault.{BsonFault}
 use Rattle.database_model.specs.World.{World, Cursor, collection_of, unused, number_or, with_documents, documents_of}
-use Rattle.entries.specs.State.{Collection, find_collection, put_collection}
+use Rattle.entry_model.specs.State.{Collection, find_collection, put_collection}
 use Rattle.outcome.specs.Outcome.{◌>>=◌, unless, or_refused}
 use Rattle.database_model.specs.Documents.{place, insert_all}
 use Rattle.command_model.specs.Find.{Query}
@@ -27,7 +27,7 @@ use Rattle.command_model.specs.Update.{UpdateStatement, Update, IsRead}
 use Rattle.database_model.specs.Update.{Updated, not_updated, run_statements, update_reply, judged, run_all, spelled}
 use Rattle.database_model.specs.UpdateCommand.{entered_in, run_update, writes_in}
 use Rattle.statements.specs.WriteLaws.{documents_in}
-use Rattle.entries.specs.Entering.{DocumentWrite, enter_each}
+use Rattle.entry_model.specs.Entering.{DocumentWrite, enter_each}
 use Rattle.statements.proofs.KeptLemmas.{Kept, stored_at}
 use Rattle.statements.proofs.WriteLawLemmas.{writes_stored}
 use Rattle.command_model.specs.ListCollections.{ListCollections}
@@ -40,7 +40,7 @@ use Rattle.database_model.specs.DropCollection.{drop_reply, dropped, index_count
 use Rattle.database_model.specs.ListCollections.{names_in, listed, run_list_collections}
 use Rattle.database_model.specs.ListIndexes.{indexes_reply, run_list_indexes}
 use Rattle.command_model.specs.Explain.{Explain}
-use Rattle.planner.specs.Explaining.{explain_text}
+use Rattle.plan_model.specs.Explaining.{explain_text}
 use Rattle.database_model.specs.Explain.{explain_reply, plan_in, run_explain}
 use Rattle.engine.proofs.ExplainingLemmas.{plan_short}
 use Rattle.engine.proofs.Creating.{dropped_lawful}

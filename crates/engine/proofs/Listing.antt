@@ -17,7 +17,7 @@ use Rattle.bson.specs.SizingLaws.{frame_of-length, pairs_bytes-none, pairs_size-
 use Rattle.bson.specs.Spelling.{frame_of, pairs_bytes}
 use Rattle.path.specs.declared.refusal.Refusal.{Refusal}
 use Rattle.database_model.specs.World.{World}
-use Rattle.entries.specs.State.{Collection}
+use Rattle.entry_model.specs.State.{Collection}
 use Rattle.database_model.specs.Lawful.{IsWithin, IsKept, IsLawfulState}
 use Rattle.replies.specs.View.{with_ok}
 use Rattle.database_model.specs.Cursors.{item_size, batch_len, batch_of, cursor_reply, number_after, batch_reply}

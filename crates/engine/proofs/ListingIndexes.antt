@@ -17,7 +17,7 @@ use Rattle.value_order.specs.declared.texts.Direction.{Direction}
 use Rattle.value_order.specs.declared.texts.Direction.TheVariants as directions
 use Rattle.command_model.specs.ListIndexes.{ListIndexes}
 use Rattle.index.specs.Definition.{Definition, Field, direction_value, key_document}
-use Rattle.entries.specs.State.{Collection, find_collection}
+use Rattle.entry_model.specs.State.{Collection, find_collection}
 use Rattle.entries.specs.declared.catalogue_reading.Catalogued.{Catalogued}
 use Rattle.index.proofs.CatalogueLemmas.{key_levels}
 use Rattle.database_model.specs.Cursors.{batch_of, batch_reply, cursor_reply, items_of_documents, number_after}

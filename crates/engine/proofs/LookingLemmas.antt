@@ -5,7 +5,7 @@ use Rattle.bson.specs.Tree.{Pairs}
 use Rattle.page.specs.History.{History, KeepsWord}
 use Rattle.path.specs.declared.refusal.Refusal.{Refusal}
 use Rattle.path.specs.declared.refusal.Refusal.TheVariants as refusals
-use Rattle.entries.specs.State.{Collection}
+use Rattle.entry_model.specs.State.{Collection}
 use Rattle.collections.specs.Calls.{ExtendsTurn, HasFailed, HasReadCause, IsUnchanged, Reads}
 use Rattle.collections.specs.Reading.{ReadsOf}
 use Rattle.collections.specs.Standing.{HasState}

@@ -13,10 +13,10 @@ use Rattle.filter.specs.Matches.{matches}
 use Rattle.value_order.specs.Order.{compare}
 use Rattle.value_order.specs.TotalLaws.{compare_total}
 use Rattle.command_model.specs.Delete.{Deletion}
-use Rattle.entries.specs.Documents.{without_document}
-use Rattle.entries.specs.LawfulState.{IsRising, IsStorable}
-use Rattle.entries.specs.State.{Collection}
-use Rattle.entries.specs.StateReads.{find_document}
+use Rattle.entry_model.specs.Documents.{without_document}
+use Rattle.entry_model.specs.LawfulState.{IsRising, IsStorable}
+use Rattle.entry_model.specs.State.{Collection}
+use Rattle.entry_model.specs.StateReads.{find_document}
 use Rattle.database_model.specs.Delete.{without_at, after_deletion, after_deletions}
 use Rattle.database_model.specs.Documents.{key_of}
 use Rattle.database_model.specs.Lawful.{IsHeld}

@@ -6,9 +6,9 @@ use Rattle.path.specs.declared.refusal.Refusal.{Refusal}
 use Rattle.path.specs.declared.refusal.Refusal.TheVariants as refusals
 use Rattle.outcome.specs.Outcome.{◌>>=◌}
 use Rattle.tree_model.specs.Keys.{Edit}
-use Rattle.entries.specs.LawfulState.{IsLawfulState}
-use Rattle.entries.specs.State.{Collection}
-use Rattle.entries.specs.StateEntries.{Leads}
+use Rattle.entry_model.specs.LawfulState.{IsLawfulState}
+use Rattle.entry_model.specs.State.{Collection}
+use Rattle.entry_model.specs.StateEntries.{Leads}
 use Rattle.collections.specs.Calls.{HasReadCause, HasWriteCause, IsOfFile}
 use Rattle.collections.proofs.CauseLemmas.{any_cause, write_cause_from}
 use Rattle.collections.proofs.LawLemmas as laws

@@ -11,7 +11,7 @@ use Rattle.path.specs.declared.refusal.Refusal.{Refusal}
 use Rattle.path.specs.declared.refusal.Refusal.TheVariants as refusals
 use Rattle.command_model.specs.Update.{UpdateStatement, IsRead}
 use Rattle.collections.specs.Calls.{HasReadCause}
-use Rattle.entries.specs.State.{Collection, find_collection}
+use Rattle.entry_model.specs.State.{Collection, find_collection}
 use Rattle.engine.specs.Durable.{disk_history, file_of, IsSound}
 use Rattle.engine.specs.Looking.{Looks, LooksOf, OnlyReads}
 use Rattle.database_model.specs.Merging.{is_meant, makes_any}

@@ -4,8 +4,8 @@ use Rattle.std.specs.Option.{option_map}
 use Rattle.bson.specs.Tree.{Pairs}
 use Rattle.page.specs.History.{History}
 use Rattle.path.specs.declared.refusal.Refusal.{Refusal}
-use Rattle.entries.specs.State.{Collection, find_collection}
-use Rattle.entries.proofs.PlaceLemmas.{found_name}
+use Rattle.entry_model.specs.State.{Collection, find_collection}
+use Rattle.entry_model.proofs.PlaceLemmas.{found_name}
 use Rattle.collections.specs.Reading.{IsNumbered}
 use Rattle.engine.specs.Looking.{Looks, LooksOf}
 use Rattle.engine.specs.Durable.{IsSound}

@@ -7,10 +7,10 @@ use Rattle.path.specs.declared.refusal.Refusal.{Refusal}
 use Rattle.path.specs.declared.refusal.Refusal.TheVariants as refusals
 use Rattle.tree_model.specs.Keys.{Edit}
 use Rattle.collections.specs.Calls.{HasReadCause}
-use Rattle.entries.specs.Documents.{AddsCollection}
-use Rattle.entries.specs.LawfulState.{IsLawfulState}
-use Rattle.entries.specs.State.{Collection, empty_collection, find_collection, put_collection, uses}
-use Rattle.entries.specs.StateEntries.{Leads}
+use Rattle.entry_model.specs.Documents.{AddsCollection}
+use Rattle.entry_model.specs.LawfulState.{IsLawfulState}
+use Rattle.entry_model.specs.State.{Collection, empty_collection, find_collection, put_collection, uses}
+use Rattle.entry_model.specs.StateEntries.{Leads}
 use Rattle.database_model.specs.Create.{created}
 use Rattle.engine.specs.Durable.{disk_history, file_of, IsRunning}
 use Rattle.engine.specs.Looking.{Looks, OnlyReads}

@@ -8,7 +8,7 @@ use Rattle.std.specs.Global.{Vec}
 use Rattle.page.specs.History.{History, KeepsWord}
 use Rattle.path.specs.declared.refusal.Refusal.{Refusal}
 use Rattle.path.specs.declared.refusal.Refusal.TheVariants as refusals
-use Rattle.entries.specs.State.{Collection, empty_collection, uses}
+use Rattle.entry_model.specs.State.{Collection, empty_collection, uses}
 use Rattle.collections.specs.Calls.{Reads}
 use Rattle.collections.specs.Reading.{name_in, name_of}
 use Rattle.collections.specs.State.{State}

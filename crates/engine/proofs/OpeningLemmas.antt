@@ -3,7 +3,7 @@ use Rattle.std.proofs.Common.{rules, ◌≡◌, false, List, [], sym, ap, subst}
 use Rattle.page.specs.History.{History}
 use Rattle.trusted_disk.specs.Trusting.{trusted_history}
 use Rattle.trusted_disk.specs.declared.disk.TrustedDisk.{TrustedDisk}
-use Rattle.entries.specs.State.{Collection}
+use Rattle.entry_model.specs.State.{Collection}
 use Rattle.collections.specs.Standing.{HasState}
 use Rattle.tree_model.specs.Keys.{times}
 use Rattle.cursors.specs.Held.{Held, cursors_of}

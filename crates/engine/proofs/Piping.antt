@@ -6,7 +6,7 @@ use Rattle.aggregate_model.specs.Stage.{Stage}
 use Rattle.aggregate_model.specs.Limits.{first_fault}
 use Rattle.aggregate_model.specs.Pipeline.{run as after_pipeline}
 use Rattle.aggregate_model.specs.TakingLaws.{stays_within}
-use Rattle.entries.specs.State.{Collection}
+use Rattle.entry_model.specs.State.{Collection}
 use Rattle.database_model.specs.World.{documents_of}
 use Rattle.statements.proofs.KeptLemmas.{stored_at}
 use Rattle.database_model.specs.Lawful.{IsLawfulState, IsStored, IsWithin}

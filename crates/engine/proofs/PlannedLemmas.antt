@@ -6,7 +6,7 @@ use Rattle.bson.specs.Tree.{Pairs, no_pairs, pair}
 use Rattle.outcome.specs.Outcome.{unless}
 use Rattle.path.specs.declared.refusal.Refusal.{Refusal}
 use Rattle.path.specs.declared.refusal.Refusal.TheVariants as refusals
-use Rattle.entries.specs.State.{Collection, find_collection, put_collection}
+use Rattle.entry_model.specs.State.{Collection, find_collection, put_collection}
 use Rattle.command_model.specs.NewIndex.{IsShortNewIndex, NewIndex}
 use Rattle.database_model.specs.Create.{created, run_create}
 use Rattle.command_model.specs.DropIndexes.{DroppedIndexes}

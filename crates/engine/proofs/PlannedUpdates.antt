@@ -8,9 +8,9 @@ use Rattle.outcome.specs.Outcome.{◌>>=◌}
 use Rattle.path.specs.declared.refusal.Refusal.{Refusal}
 use Rattle.path.specs.declared.refusal.Refusal.TheVariants as refusals
 use Rattle.command_model.specs.Update.{UpdateStatement, IsRead}
-use Rattle.entries.specs.LawfulState.{IsRising}
-use Rattle.entries.specs.State.{Collection, find_collection}
-use Rattle.entries.proofs.PlaceLemmas.{found_name}
+use Rattle.entry_model.specs.LawfulState.{IsRising}
+use Rattle.entry_model.specs.State.{Collection, find_collection}
+use Rattle.entry_model.proofs.PlaceLemmas.{found_name}
 use Rattle.entries.proofs.StateEditLaws.{put_same}
 use Rattle.database_model.specs.Lawful.{IsLawfulState, IsStored}
 use Rattle.database_model.specs.Merging.{Listed, listed_in, makes_any, not_listed, put_each, run_each, upsert_listed}

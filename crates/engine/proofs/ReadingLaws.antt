@@ -20,7 +20,7 @@ use Rattle.database_model.specs.ListCollections.{run_list_collections}
 use Rattle.command_model.specs.Command.{Command, ping, insert, find, count, delete}
 use Rattle.command_model.specs.Command.{update, aggregate, create, drop as drop_of, list_collections, create_indexes}
 use Rattle.command_model.specs.Command.{drop_indexes, list_indexes, explain, command_of, get_more, kill_cursors, hello}
-use Rattle.entries.specs.State.{Collection, find_collection}
+use Rattle.entry_model.specs.State.{Collection, find_collection}
 use Rattle.database_model.specs.World.{World, documents_of}
 use Rattle.database_model.specs.Cursors.{batch_of, batch_reply, open_cursor, is_refused, new_cursor, first_batch, is_cursor}
 use Rattle.command_model.specs.GetMore.{GetMore}

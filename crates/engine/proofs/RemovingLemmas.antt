@@ -13,11 +13,11 @@ use Rattle.command_model.specs.Delete.{Deletion}
 use Rattle.collections.specs.Calls.{HasReadCause}
 use Rattle.collections.proofs.LawLemmas as laws
 use Rattle.index.specs.Definition.{Definition}
-use Rattle.entries.specs.LawfulState.{AreNamedApart, IsKept, IsLawfulState}
-use Rattle.entries.specs.State.{Collection, find_collection, put_collection}
-use Rattle.entries.specs.StateEntries.{Leads}
-use Rattle.entries.proofs.HomeLemmas.{kept_of}
-use Rattle.entries.proofs.PlaceLemmas.{found_in, found_name}
+use Rattle.entry_model.specs.LawfulState.{AreNamedApart, IsKept, IsLawfulState}
+use Rattle.entry_model.specs.State.{Collection, find_collection, put_collection}
+use Rattle.entry_model.specs.StateEntries.{Leads}
+use Rattle.entry_model.proofs.LawfulParts.{kept_of}
+use Rattle.entry_model.proofs.PlaceLemmas.{found_in, found_name}
 use Rattle.entries.proofs.StateEditLaws.{put_same}
 use Rattle.database_model.specs.Delete.{after_deletion, after_deletions, deleted_in, run_delete}
 use Rattle.engine.specs.Durable.{disk_history, file_of, IsSound}

@@ -9,10 +9,10 @@ use Rattle.std.proofs.lemmas.List.Elements.{All-head, All-tail}
 use Rattle.bson.specs.Tree.{Tree, Pairs}
 use Rattle.value_order.specs.Order.{compare}
 use Rattle.value_order.specs.TotalLaws.{compare_total}
-use Rattle.entries.specs.Documents.{put_document}
-use Rattle.entries.specs.LawfulState.{IsRising, IsStorable}
-use Rattle.entries.specs.State.{by_order}
-use Rattle.entries.specs.StateReads.{find_document}
+use Rattle.entry_model.specs.Documents.{put_document}
+use Rattle.entry_model.specs.LawfulState.{IsRising, IsStorable}
+use Rattle.entry_model.specs.State.{by_order}
+use Rattle.entry_model.specs.StateReads.{find_document}
 use Rattle.database_model.specs.Documents.{key_of}
 use Rattle.engine.specs.Putting.{AreWritesOf, IsWriteOf}
 use Rattle.engine.specs.Storing.{IsReplacedIn}

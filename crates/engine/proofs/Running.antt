@@ -17,7 +17,7 @@ use Rattle.replies.specs.FirstBatch.{IsFirstBatch, IsNoBatch}
 use Rattle.replies.specs.View.{with_ok}
 use Rattle.database_model.specs.Delete.{after_deletions, deleted_in, run_delete}
 use Rattle.database_model.specs.World.{World, Cursor, CursorTable, collection_of, documents_of}
-use Rattle.entries.specs.State.{Collection, find_collection, put_collection}
+use Rattle.entry_model.specs.State.{Collection, find_collection, put_collection}
 use Rattle.outcome.specs.Outcome.{◌>>=◌, Fails, unless, or_refused}
 use Rattle.std.specs.List.{filter, position}
 use Rattle.database_model.specs.Documents.{insert_all}

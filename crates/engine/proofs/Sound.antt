@@ -8,7 +8,7 @@ use Rattle.collections.specs.Calls.{HasReadCause, IsUnchanged}
 use Rattle.collections.specs.Standing.{HasState}
 use Rattle.collections.specs.View as views
 use Rattle.database_model.specs.World.{World, Cursor, forget, after_undo}
-use Rattle.entries.specs.State.{Collection}
+use Rattle.entry_model.specs.State.{Collection}
 use Rattle.database_model.specs.Lawful.{IsWithin, IsLawfulState, IsLawful}
 use Rattle.command_model.specs.Command.{Command, IsBounded}
 use Rattle.database_model.specs.Step.{run, answered, RefusedBeside}

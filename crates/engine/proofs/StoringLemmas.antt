@@ -12,13 +12,13 @@ use Rattle.tree_model.specs.Keys.{Edit}
 use Rattle.collections.specs.Reading.{catalogued_in, catalogued_of}
 use Rattle.update_model.specs.Stored.{id_first}
 use Rattle.index.specs.Definition.{Definition}
-use Rattle.entries.specs.Documents.{AddsCollection}
-use Rattle.entries.specs.LawfulState as states
-use Rattle.entries.specs.LawfulState.{IsStorable}
-use Rattle.entries.specs.State.{Collection, empty_collection, find_collection, put_collection, uses}
-use Rattle.entries.specs.StateEntries.{Leads}
+use Rattle.entry_model.specs.Documents.{AddsCollection}
+use Rattle.entry_model.specs.LawfulState as states
+use Rattle.entry_model.specs.LawfulState.{IsStorable}
+use Rattle.entry_model.specs.State.{Collection, empty_collection, find_collection, put_collection, uses}
+use Rattle.entry_model.specs.StateEntries.{Leads}
 use Rattle.entries.specs.declared.catalogue_reading.Catalogued.{Catalogued}
-use Rattle.entries.proofs.PlaceLemmas.{found_name}
+use Rattle.entry_model.proofs.PlaceLemmas.{found_name}
 use Rattle.entries.proofs.StateEditLaws.{put_same}
 use Rattle.database_model.specs.Documents.{checked, insert_all, insert_one, key_of}
 use Rattle.database_model.specs.Insert.{inserted, is_full}

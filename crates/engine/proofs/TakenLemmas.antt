@@ -8,10 +8,10 @@ use Rattle.bson.specs.Tree.{Pairs}
 use Rattle.page.specs.History.{History}
 use Rattle.path.specs.declared.refusal.Refusal.{Refusal}
 use Rattle.command_model.specs.Delete.{Deletion}
-use Rattle.entries.specs.State.{Collection, find_collection, put_collection}
+use Rattle.entry_model.specs.State.{Collection, find_collection, put_collection}
 use Rattle.entries.specs.declared.catalogue_reading.Catalogued.{Catalogued}
-use Rattle.entries.proofs.FoundLawLemmas.{finds_put}
-use Rattle.entries.proofs.PlaceLemmas.{found_name}
+use Rattle.entry_model.proofs.FoundLawLemmas.{finds_put}
+use Rattle.entry_model.proofs.PlaceLemmas.{found_name}
 use Rattle.database_model.specs.Delete.{after_deletions, deleted_in}
 use Rattle.engine.specs.Looking.{Looks, LooksOf}
 use Rattle.database_model.specs.Merging.{is_deleted}

@@ -14,20 +14,20 @@ use Rattle.tree_model.specs.Keys.{Edit}
 use Rattle.path.specs.declared.refusal.Refusal.{Refusal}
 use Rattle.path.specs.declared.refusal.Refusal.TheVariants as refusals
 use Rattle.index.specs.Definition.{Definition}
-use Rattle.entries.specs.Documents.{with_documents, without_document}
+use Rattle.entry_model.specs.Documents.{with_documents, without_document}
 use Rattle.entries.specs.Indexed.{DeletesFrom}
 use Rattle.index.specs.KeyTexts.{encoded_keys, keys_in, keys_in_all}
-use Rattle.entries.specs.LawfulState.{IsKept, IsLawfulState}
-use Rattle.entries.specs.State.{Collection, put_collection}
-use Rattle.entries.specs.StateEntries.{Leads}
-use Rattle.entries.specs.StateLaws.{MayBecome}
-use Rattle.entries.specs.StateReads.{find_document}
-use Rattle.entries.proofs.FoundLawLemmas.{finds_put, put_twice}
-use Rattle.entries.proofs.HomeLemmas.{kept_of, listed_of, storable_of}
-use Rattle.entries.proofs.KeptSteps.{kept_without_document}
-use Rattle.entries.proofs.LawfulLaws.{all_of, stays_lawful}
-use Rattle.entries.proofs.MemberLemmas.{of_all}
-use Rattle.entries.proofs.PlaceLemmas.{found_in}
+use Rattle.entry_model.specs.LawfulState.{IsKept, IsLawfulState}
+use Rattle.entry_model.specs.State.{Collection, put_collection}
+use Rattle.entry_model.specs.StateEntries.{Leads}
+use Rattle.entry_model.specs.StateLaws.{MayBecome}
+use Rattle.entry_model.specs.StateReads.{find_document}
+use Rattle.entry_model.proofs.FoundLawLemmas.{finds_put, put_twice}
+use Rattle.entry_model.proofs.LawfulParts.{kept_of, listed_of, storable_of}
+use Rattle.entry_model.proofs.KeptSteps.{kept_without_document}
+use Rattle.entry_model.proofs.LawfulLaws.{all_of, stays_lawful}
+use Rattle.entry_model.proofs.MemberLemmas.{of_all}
+use Rattle.entry_model.proofs.PlaceLemmas.{found_in}
 use Rattle.entries.proofs.StateEditLaws.{put_same}
 use Rattle.database_model.specs.Documents.{key_of}
 use Rattle.statements.specs.Redoing.{without_each}

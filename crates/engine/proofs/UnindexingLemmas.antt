@@ -21,8 +21,8 @@ use Rattle.index.specs.Definition.{Definition}
 use Rattle.entries.specs.IndexBuilding.{HasRemovedEntries}
 use Rattle.index.specs.KeyTexts.{encoded_keys, keys_in}
 use Rattle.entries.specs.Indexed.{GoesOnBy}
-use Rattle.entries.specs.State.{Collection}
-use Rattle.entries.specs.StateEntries.{index_entries, removal_of, removals}
+use Rattle.entry_model.specs.State.{Collection}
+use Rattle.entry_model.specs.StateEntries.{index_entries, removal_of, removals}
 use Rattle.entries.proofs.BuildingLaws.{removes_one_more}
 use Rattle.entries.proofs.ManyEditsLaws.{goes_on}
 use Rattle.engine.specs.Durable.{disk_history, IsRunning, IsSound}

@@ -13,10 +13,10 @@ use Rattle.collections.specs.Calls.{HasReadCause}
 use Rattle.command_model.specs.Command.{update}
 use Rattle.command_model.specs.OutcomeLaws.{step_of}
 use Rattle.command_model.specs.Update.{UpdateStatement, IsRead}
-use Rattle.entries.specs.Entering.{DocumentWrite}
-use Rattle.entries.specs.LawfulState as states
-use Rattle.entries.specs.State.{Collection}
-use Rattle.entries.specs.StateEntries.{Leads}
+use Rattle.entry_model.specs.Entering.{DocumentWrite}
+use Rattle.entry_model.specs.LawfulState as states
+use Rattle.entry_model.specs.State.{Collection}
+use Rattle.entry_model.specs.StateEntries.{Leads}
 use Rattle.engine.specs.Durable.{disk_history, file_of, has_changes, IsRunning}
 use Rattle.opening.specs.TurnStates.{TurnStates}
 use Rattle.database_model.specs.Lawful.{IsLawfulState}

@@ -10,10 +10,10 @@ use Rattle.outcome.specs.Outcome.{◌>>=◌, unless}
 use Rattle.path.specs.declared.refusal.Refusal.{Refusal}
 use Rattle.path.specs.declared.refusal.Refusal.TheVariants as refusals
 use Rattle.collections.specs.Reading.{IsWithinLimits}
-use Rattle.entries.specs.Entering.{DocumentWrite, enter_each, entered}
-use Rattle.entries.specs.State.{Collection, put_collection}
+use Rattle.entry_model.specs.Entering.{DocumentWrite, enter_each, entered}
+use Rattle.entry_model.specs.State.{Collection, put_collection}
 use Rattle.entries.specs.declared.catalogue_reading.Catalogued.{Catalogued}
-use Rattle.entries.proofs.EnteringLemmas.{has_entered}
+use Rattle.entry_model.proofs.EnteringLemmas.{has_entered}
 use Rattle.engine.specs.Durable.{disk_history}
 use Rattle.database_model.specs.Insert.{is_full}
 use Rattle.engine.specs.Looking.{OnlyReads}

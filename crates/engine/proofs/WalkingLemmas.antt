@@ -13,9 +13,9 @@ use Rattle.filter.specs.Matches.{matches}
 use Rattle.projection.specs.Projection.{Projection, project}
 use Rattle.page.specs.History.{History, KeepsWord}
 use Rattle.collections.specs.State.{State}
-use Rattle.entries.specs.LawfulState.{IsRising}
-use Rattle.entries.specs.State.{Collection, key_of}
-use Rattle.entries.specs.StateReads.{find_document}
+use Rattle.entry_model.specs.LawfulState.{IsRising}
+use Rattle.entry_model.specs.State.{Collection, key_of}
+use Rattle.entry_model.specs.StateReads.{find_document}
 use Rattle.entries.specs.declared.catalogue_reading.Catalogued.{Catalogued}
 use Rattle.cursors.specs.Held.{Held, Way, through, listed, table_of}
 use Rattle.pinned_cursors.specs.Opening.{IsLeftOf, OpensPinned, Tells}

@@ -1,7 +1,7 @@
 -- What a check of a file tells: how much the file holds.
 use Rattle.std.specs.Prelude.{◌≡◌, ℕ, List, length, Result, MatchResult}
 use Rattle.page.specs.History.{History, KeepsWord, now, reads}
-use Rattle.entries.specs.State.{Collection}
+use Rattle.entry_model.specs.State.{Collection}
 use Rattle.collections.specs.Counting.{HasCounts}
 use Rattle.opening.specs.Totals.{total_documents, total_indexes}
 use Rattle.engine.specs.Dump.{HasFaultCause}

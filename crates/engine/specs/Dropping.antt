@@ -5,10 +5,10 @@ use Rattle.bson.specs.Tree.{Pairs}
 use Rattle.tree_model.specs.Keys.{Edit}
 use Rattle.collections.specs.Walk.{IsWalk}
 use Rattle.collections.specs.declared.walk.Walk.{Walk}
-use Rattle.entries.specs.Documents.{with_documents}
-use Rattle.entries.specs.LawfulState.{IsLawfulState}
-use Rattle.entries.specs.State.{Collection}
-use Rattle.entries.specs.StateEntries.{Leads}
+use Rattle.entry_model.specs.Documents.{with_documents}
+use Rattle.entry_model.specs.LawfulState.{IsLawfulState}
+use Rattle.entry_model.specs.State.{Collection}
+use Rattle.entry_model.specs.StateEntries.{Leads}
 use Rattle.entries.specs.declared.catalogue_reading.Catalogued.{Catalogued}
 use Rattle.engine.specs.TakingOut.{IsHome, IsIndexable}
 

@@ -4,7 +4,7 @@ use Rattle.std.specs.Prelude.{◌≡◌, ⊤, ℕ, List, Some, None, Result, Mat
 use Rattle.std.specs.Global.{Vec}
 use Rattle.bson.specs.Tree.{Pairs}
 use Rattle.page.specs.History.{History, KeepsWord}
-use Rattle.entries.specs.State.{Collection, find_collection}
+use Rattle.entry_model.specs.State.{Collection, find_collection}
 use Rattle.collections.specs.Calls.{HasFailed}
 use Rattle.collections.specs.Walk.{IsWalk, StepsOn}
 use Rattle.collections.specs.declared.walk.Walk.{Walk}

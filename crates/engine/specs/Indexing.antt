@@ -9,10 +9,11 @@ use Rattle.path.specs.declared.refusal.Refusal.{Refusal}
 use Rattle.path.specs.declared.refusal.Refusal.TheVariants as refusals
 use Rattle.command_model.specs.NewIndex.{NewIndex}
 use Rattle.index.specs.Definition.{Definition}
-use Rattle.entries.specs.IndexMaking.{HasEntries, with_index}
-use Rattle.entries.specs.LawfulState as states
-use Rattle.entries.specs.State.{Collection, find_collection, put_collection}
-use Rattle.entries.specs.StateEntries.{Leads}
+use Rattle.entries.specs.IndexMaking.{HasEntries}
+use Rattle.entry_model.specs.WithIndex.{with_index}
+use Rattle.entry_model.specs.LawfulState as states
+use Rattle.entry_model.specs.State.{Collection, find_collection, put_collection}
+use Rattle.entry_model.specs.StateEntries.{Leads}
 use Rattle.entries.specs.declared.making.NewEntries.{NewEntries}
 use Rattle.database_model.specs.CreateIndexes.{with_new_indexes}
 use Rattle.database_model.specs.Insert.{is_full}

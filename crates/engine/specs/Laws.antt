@@ -3,7 +3,7 @@ use Rattle.std.specs.Prelude.{◌≡◌, ℕ, List, [], replicate, Result, Ok, E
 use Rattle.bson.specs.Tree.{Pairs}
 use Rattle.bson_bytes.specs.declared.fault.BsonFault.{BsonFault}
 use Rattle.database_model.specs.World.{World, new_world}
-use Rattle.entries.specs.State.{Collection}
+use Rattle.entry_model.specs.State.{Collection}
 use Rattle.collections.specs.Calls.{IsOfFile}
 use Rattle.database_model.specs.Lawful.{IsLawful}
 use Rattle.opening.specs.Holding.{HoldsCollections}

@@ -2,7 +2,7 @@
 use Rattle.std.specs.Prelude.{◌≡◌, ◌<◌, ◌≤◌, ℕ, Bool, false, List, [], length, map, slice_index_or}
 use Rattle.path.specs.declared.refusal.Refusal.{Refusal}
 use Rattle.path.specs.declared.refusal.Refusal.TheVariants as refusals
-use Rattle.entries.specs.State.{Collection, empty_collection, uses}
+use Rattle.entry_model.specs.State.{Collection, empty_collection, uses}
 use Rattle.collections.specs.declared.lookups.Name.{Name}
 use Rattle.database_model.specs.World.{unused}
 

@@ -10,11 +10,11 @@ use Rattle.path.specs.declared.refusal.Refusal.{Refusal}
 use Rattle.path.specs.declared.refusal.Refusal.TheVariants as refusals
 use Rattle.collections.specs.Calls.{HasReadCause}
 use Rattle.command_model.specs.Update.{UpdateStatement}
-use Rattle.entries.specs.Documents.{put_document}
-use Rattle.entries.specs.LawfulState as states
-use Rattle.entries.specs.LawfulState.{IsStorable}
-use Rattle.entries.specs.State.{Collection, find_collection}
-use Rattle.entries.specs.StateEntries.{Leads}
+use Rattle.entry_model.specs.Documents.{put_document}
+use Rattle.entry_model.specs.LawfulState as states
+use Rattle.entry_model.specs.LawfulState.{IsStorable}
+use Rattle.entry_model.specs.State.{Collection, find_collection}
+use Rattle.entry_model.specs.StateEntries.{Leads}
 use Rattle.engine.specs.Durable.{disk_history, file_of}
 use Rattle.engine.specs.Looking.{OnlyReads}
 use Rattle.database_model.specs.Merging.{is_meant, made_of, makes_any}

@@ -3,7 +3,7 @@ use Rattle.std.specs.Prelude.{◌≡◌, ℕ, ◌<◌, ◌-◌, ◌^◌, List, l
 use Rattle.std.specs.List.{filter}
 use Rattle.bson.specs.Tree.{Pairs}
 use Rattle.command_model.specs.Delete.{Deletion}
-use Rattle.entries.specs.State.{Collection, find_collection}
+use Rattle.entry_model.specs.State.{Collection, find_collection}
 use Rattle.database_model.specs.Delete.{deleted_in}
 use Rattle.database_model.specs.Merging.{is_deleted}
 use Rattle.statements.specs.Redoing.{all_taken}

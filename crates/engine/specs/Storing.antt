@@ -9,12 +9,13 @@ use Rattle.path.specs.declared.refusal.Refusal.{Refusal}
 use Rattle.path.specs.declared.refusal.Refusal.TheVariants as refusals
 use Rattle.collections.specs.Calls.{HasReadCause}
 use Rattle.value_order.specs.KeyText.{tree_text}
-use Rattle.entries.specs.Entering.{AreKeyed, DocumentWrite, clashes, entered, is_duplicate}
-use Rattle.entries.specs.LawfulState as states
-use Rattle.entries.specs.LawfulState.{IsStorable}
-use Rattle.entries.specs.State.{Collection, put_collection}
-use Rattle.entries.specs.StateEntries.{Leads}
-use Rattle.entries.specs.StateReads.{find_document}
+use Rattle.entry_model.specs.Entering.{DocumentWrite, clashes, entered, is_duplicate}
+use Rattle.entries.specs.KeyedDocuments.{AreKeyed}
+use Rattle.entry_model.specs.LawfulState as states
+use Rattle.entry_model.specs.LawfulState.{IsStorable}
+use Rattle.entry_model.specs.State.{Collection, put_collection}
+use Rattle.entry_model.specs.StateEntries.{Leads}
+use Rattle.entry_model.specs.StateReads.{find_document}
 use Rattle.entries.specs.declared.catalogue_reading.Catalogued.{Catalogued}
 use Rattle.entries.specs.declared.entering.Keyed.{Keyed}
 use Rattle.database_model.specs.Documents.{key_of}

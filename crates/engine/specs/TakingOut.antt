@@ -7,12 +7,12 @@ use Rattle.collections.specs.Reading.{IsNumbered}
 use Rattle.path.specs.declared.refusal.Refusal.{Refusal}
 use Rattle.path.specs.declared.refusal.Refusal.TheVariants as refusals
 use Rattle.index.specs.Definition.{Definition}
-use Rattle.entries.specs.Documents.{with_documents, without_document}
+use Rattle.entry_model.specs.Documents.{with_documents, without_document}
 use Rattle.index.specs.KeyTexts.{encoded_keys, keys_in_all}
-use Rattle.entries.specs.LawfulState.{IsLawfulState, IsStorable}
-use Rattle.entries.specs.State.{Collection, find_collection}
-use Rattle.entries.specs.StateEntries.{Leads}
-use Rattle.entries.specs.StateReads.{find_document}
+use Rattle.entry_model.specs.LawfulState.{IsLawfulState, IsStorable}
+use Rattle.entry_model.specs.State.{Collection, find_collection}
+use Rattle.entry_model.specs.StateEntries.{Leads}
+use Rattle.entry_model.specs.StateReads.{find_document}
 use Rattle.entries.specs.declared.catalogue_reading.Catalogued.{Catalogued}
 use Rattle.database_model.specs.Documents.{key_of}
 use Rattle.statements.specs.Redoing.{without_each}

@@ -10,10 +10,10 @@ use Rattle.path.specs.declared.refusal.Refusal.{Refusal}
 use Rattle.command_model.specs.DropIndexes.{DroppedIndexes}
 use Rattle.index.specs.Definition.{Definition}
 use Rattle.entries.specs.IndexBuilding.{HasRemovedEntries}
-use Rattle.entries.specs.IndexMaking.{without_index_at}
+use Rattle.entry_model.specs.WithIndex.{without_index_at}
 use Rattle.index.specs.KeyTexts.{encoded_keys, keys_in}
-use Rattle.entries.specs.LawfulState.{IsStorable}
-use Rattle.entries.specs.State.{Collection, find_collection}
+use Rattle.entry_model.specs.LawfulState.{IsStorable}
+use Rattle.entry_model.specs.State.{Collection, find_collection}
 use Rattle.database_model.specs.DropIndexes.{remaining}
 
 -- ---- documents

@@ -4,7 +4,7 @@ use Rattle.bson.specs.Tree.{Pairs}
 use Rattle.cursors.specs.Held.{table_of}
 use Rattle.database_model.specs.World.{World, CursorTable}
 use Rattle.database_model.specs.Refusals.{refusal_reply}
-use Rattle.entries.specs.State.{Collection}
+use Rattle.entry_model.specs.State.{Collection}
 use Rattle.opening.specs.TurnStates.{TurnStates}
 use Rattle.replies.specs.View.{answer_of}
 use Rattle.engine.specs.declared.engine.Reply.{Reply}

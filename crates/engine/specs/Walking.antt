@@ -3,8 +3,8 @@ use Rattle.std.specs.Prelude.{◌≡◌, ℕ, All, List, [], Some, map}
 use Rattle.bson.specs.Tree.{Pairs}
 use Rattle.command_model.specs.Find.{Query}
 use Rattle.database_model.specs.Find.{selection}
-use Rattle.entries.specs.State.{Collection, key_of}
-use Rattle.entries.specs.StateReads.{find_document}
+use Rattle.entry_model.specs.State.{Collection, key_of}
+use Rattle.entry_model.specs.StateReads.{find_document}
 use Rattle.entries.specs.declared.catalogue_reading.Catalogued.{Catalogued}
 use Rattle.engine.specs.TakingOut.{HasHome}
 use Rattle.replies.specs.declared.batch_spelling.BatchKind.TheVariants as kinds

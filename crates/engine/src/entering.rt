@@ -2,8 +2,8 @@
 
 ghost use Rattle.std.specs.Prelude.{◌≡◌, ◌≤◌, [], IfOk, length, option_map};
 ghost use Rattle.collections.specs.Reading.{IsWithinLimits};
-ghost use Rattle.entries.specs.Entering.{AreKeyed};
-ghost use Rattle.entries.specs.LawfulState.{IsStorable};
+ghost use Rattle.entries.specs.KeyedDocuments.{AreKeyed};
+ghost use Rattle.entry_model.specs.LawfulState.{IsStorable};
 ghost use Rattle.engine.specs.Durable.{IsSound};
 ghost use Rattle.engine.specs.Looking.{LooksOf};
 ghost use Rattle.engine.specs.Storing.{AreNoted, IsBeside, IsFull, MayEnter, Notes, TellsDuplicate, TellsTaken, entering};

@@ -6,7 +6,7 @@ ghost use Rattle.database_model.specs.Refusals.{ok_reply};
 ghost use Rattle.engine.specs.Durable.{has_changes, IsSound};
 ghost use Rattle.engine.specs.Performing.{RunsReadingCommand};
 ghost use Rattle.engine.specs.View.{world};
-ghost use Rattle.planner.specs.Explaining.{explain_text};
+ghost use Rattle.plan_model.specs.Explaining.{explain_text};
 ghost use Rattle.planner.specs.View.{plan_of};
 ghost use Rattle.replies.specs.View.{IsSendable};
 

@@ -38,7 +38,7 @@ mod writing;
 pub use check_fault::CheckFault;
 pub use checking::Counts;
 pub use engine::{Engine, Reply};
-pub use entries::MOST_INDEXES;
+pub use entry_model::MOST_INDEXES;
 pub use opening::MOST_COLLECTIONS;
 pub use path::Refusal;
 pub use refusal::body_refusal;

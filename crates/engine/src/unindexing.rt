@@ -5,7 +5,7 @@ ghost use Rattle.collections.specs.Reading.{IsWithinLimits};
 ghost use Rattle.commands.specs.View.{dropped_of};
 ghost use Rattle.entries.specs.IndexBuilding.{HasRemovedEntries};
 ghost use Rattle.entries.specs.Indexed.{GoesOnBy};
-ghost use Rattle.entries.specs.StateEntries.{index_entries, removals};
+ghost use Rattle.entry_model.specs.StateEntries.{index_entries, removals};
 ghost use Rattle.engine.specs.Durable.{IsRunning, IsSound};
 ghost use Rattle.engine.specs.Looking.{LooksOf};
 ghost use Rattle.engine.specs.Storing.{Notes};

@@ -13,7 +13,7 @@ ghost use Rattle.engine.specs.Putting.{AreWritesOf, HasNumber, IsFullFor, IsFull
 ghost use Rattle.database_model.specs.Step.{ChangesNone};
 ghost use Rattle.engine.specs.Storing.{MayEnter, Notes, entering};
 ghost use Rattle.engine.specs.Trying.{MayRefuse};
-ghost use Rattle.entries.specs.Entering.{enter_each};
+ghost use Rattle.entry_model.specs.Entering.{enter_each};
 ghost use Rattle.database_model.specs.UpdateCommand.{run_update};
 ghost use Rattle.statements.specs.Updating.{MayBePut, news_of, seen};
 ghost use Rattle.replies.specs.View.{IsSendable};

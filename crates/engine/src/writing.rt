@@ -2,9 +2,9 @@
 
 ghost use Rattle.std.specs.Prelude.{◌≡◌, List};
 ghost use Rattle.page.specs.History.{KeepsWord};
-ghost use Rattle.entries.specs.LawfulState as states;
-ghost use Rattle.entries.specs.State.{Collection};
-ghost use Rattle.entries.specs.StateEntries.{Leads};
+ghost use Rattle.entry_model.specs.LawfulState as states;
+ghost use Rattle.entry_model.specs.State.{Collection};
+ghost use Rattle.entry_model.specs.StateEntries.{Leads};
 ghost use Rattle.engine.specs.Durable.{disk_history, IsRunning, IsSound};
 ghost use Rattle.database_model.specs.Lawful.{IsLawfulState};
 ghost use Rattle.engine.specs.View.{world};

@@ -17,12 +17,12 @@ use Rattle.value_order.specs.declared.texts.Direction.TheVariants as directions
 use Rattle.value_order.proofs.KeyLaws.{texts_order}
 use Rattle.tree_model.specs.Keys.{Entry, IsNotUnder, IsUnder, keep_if, key_cmp, is_within, window}
 use Rattle.entries.specs.Batches.{documents_at, ListsDocumentsFrom, AllDocuments, GoesOnBehind}
-use Rattle.entries.specs.LawfulState.{IsStorable, IsRising}
-use Rattle.entries.specs.State.{key_of}
-use Rattle.entries.specs.StateEntries.{key_under, document_entry}
-use Rattle.entries.proofs.EntryLemmas.{id_is_key}
+use Rattle.entry_model.specs.LawfulState.{IsStorable, IsRising}
+use Rattle.entry_model.specs.State.{key_of}
+use Rattle.entry_model.specs.StateEntries.{key_under, document_entry}
+use Rattle.entry_model.proofs.LawfulParts.{id_is_key}
 use Rattle.entries.proofs.ListingLaws.{lists_documents}
-use Rattle.entries.proofs.MemberLemmas.{Among, first_of}
+use Rattle.entry_model.proofs.MemberLemmas.{Among, first_of}
 
 -- ---- from a key on
 

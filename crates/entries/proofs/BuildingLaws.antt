@@ -8,13 +8,13 @@ use Rattle.tree_model.specs.Keys.{Entry, Edit}
 use Rattle.index.specs.Definition.{Definition}
 use Rattle.entries.specs.Indexed.{GoesOnBy}
 use Rattle.entries.specs.IndexBuilding.{GoOnFurther, GoWhereTheyLead, PutsOneMore, RemovesOneMore, MakesIndexOfAll, DropsIndexOfAll}
-use Rattle.entries.specs.State.{Collection, put_collection}
-use Rattle.entries.specs.StateEntries.{catalogue_entry, collection_entries, index_entries, put_of, removal_of, puts, removals, Leads}
-use Rattle.entries.specs.StateLaws.{entries_in}
+use Rattle.entry_model.specs.State.{Collection, put_collection}
+use Rattle.entry_model.specs.StateEntries.{catalogue_entry, collection_entries, index_entries, put_of, removal_of, puts, removals, Leads}
+use Rattle.entry_model.specs.StateLaws.{entries_in}
 use Rattle.entries.proofs.ExchangeLaws.{HasKey}
 use Rattle.entries.proofs.IndexSteps.{made, drops_index}
 use Rattle.entries.proofs.ManyEditsLaws.{goes_on, goes_there}
-use Rattle.entries.proofs.MemberLemmas.{Among, among_append, among_front, among_back}
+use Rattle.entry_model.proofs.MemberLemmas.{Among, among_append, among_front, among_back}
 use Rattle.entries.proofs.StepLemmas.{Exchanged, exchanged_leads}
 
 pub go_on_further : GoOnFurther

@@ -20,8 +20,8 @@ use Rattle.value_order.specs.declared.texts.Direction.{Direction}
 use Rattle.value_order.specs.declared.texts.Direction.TheVariants as directions
 use Rattle.index.specs.Definition.{Field, Definition, direction_value, key_document, IsPath, IsDefinition}
 use Rattle.index.specs.Catalogue.{spelled, definition_in}
-use Rattle.entries.specs.State.{int}
-use Rattle.entries.specs.StateEntries.{definition_items, catalogue_value}
+use Rattle.entry_model.specs.State.{int}
+use Rattle.entry_model.specs.StateEntries.{definition_items, catalogue_value}
 use Rattle.index.proofs.CatalogueLemmas.{differ, key_levels}
 use Rattle.index.proofs.CatalogueLaws.{reads_back}
 

@@ -15,10 +15,10 @@ use Rattle.bson.specs.View.{tree, items_of}
 use Rattle.bson.specs.declared.value.Value.{Value}
 use Rattle.index.specs.Definition.{Definition, IsDefinition}
 use Rattle.entries.specs.CatalogueReading.{item_in, definitions_in}
-use Rattle.entries.specs.LawfulState.{IsKept}
-use Rattle.entries.specs.State.{Collection}
-use Rattle.entries.specs.StateReads.{catalogue_bytes}
-use Rattle.entries.specs.StateEntries.{catalogue_value, definition_items}
+use Rattle.entry_model.specs.LawfulState.{IsKept}
+use Rattle.entry_model.specs.State.{Collection}
+use Rattle.entry_model.specs.StateReads.{catalogue_bytes}
+use Rattle.entry_model.specs.StateEntries.{catalogue_value, definition_items}
 use Rattle.index.proofs.CatalogueLaws.{reads_back}
 use Rattle.entries.proofs.CatalogueEntries.{value_spells}
 use Rattle.entries.proofs.CatalogueValues.{from_there}

@@ -14,8 +14,8 @@ use Rattle.index.specs.Catalogue.{spelled}
 use Rattle.tree_model.specs.Keys.{Edit}
 use Rattle.entries.specs.EditList.{with_edit, LeadsWith}
 use Rattle.entries.specs.Indexed.{catalogue_put, NotesIndexesOf}
-use Rattle.entries.specs.State.{Collection, put_collection}
-use Rattle.entries.specs.StateEntries.{definition_items, Leads}
+use Rattle.entry_model.specs.State.{Collection, put_collection}
+use Rattle.entry_model.specs.StateEntries.{definition_items, Leads}
 use Rattle.entries.proofs.IndexSteps.{notes_indexes}
 use Rattle.entries.proofs.CatalogueEntries.{items_lawful, items_flat}
 

@@ -1,12 +1,12 @@
 -- A collection more, and one less.
 use Rattle.std.proofs.Common.{◌≡◌, List, [], ◌∷◌, inl, inr, refl, sym, ap, subst}
 use Rattle.tree_model.specs.Keys.{Entry}
-use Rattle.entries.specs.State.{Collection, empty_collection, put_collection, without_collection}
-use Rattle.entries.specs.StateEntries.{catalogue_entry, collection_entries, state_entries}
-use Rattle.entries.specs.StateLaws.{MakesCollection, DropsCollection}
-use Rattle.entries.proofs.MemberLemmas.{Among, among_flat, among_each}
+use Rattle.entry_model.specs.State.{Collection, empty_collection, put_collection, without_collection}
+use Rattle.entry_model.specs.StateEntries.{catalogue_entry, collection_entries, state_entries}
+use Rattle.entry_model.specs.StateLaws.{MakesCollection, DropsCollection}
+use Rattle.entry_model.proofs.MemberLemmas.{Among, among_flat, among_each}
 use Rattle.entries.proofs.ExchangeLaws.{exchange_leads}
-use Rattle.entries.proofs.PlaceLemmas.{found_in, found_split, none_without, without_in, without_other, put_among, among_put}
+use Rattle.entry_model.proofs.PlaceLemmas.{found_in, found_split, none_without, without_in, without_other, put_among, among_put}
 use Rattle.entries.proofs.EntryLemmas.{one_of}
 use Rattle.entries.proofs.HomeLemmas.{one_home, is_map}
 use Rattle.entries.proofs.StepLemmas.{removals_alone}

@@ -8,15 +8,16 @@ use Rattle.value_order.specs.KeyText.{tree_text}
 use Rattle.tree_model.specs.Keys.{Entry}
 use Rattle.index.specs.Definition.{Definition}
 use Rattle.index.specs.KeyTexts.{encoded_keys}
-use Rattle.entries.specs.State.{Collection, key_of, put_collection}
-use Rattle.entries.specs.StateEntries.{index_entry, index_entries, document_entries, collection_entries}
-use Rattle.entries.specs.LawfulState.{IsKept}
-use Rattle.entries.specs.StateLaws.{InsertsDocument, DeletesDocument}
-use Rattle.entries.proofs.MemberLemmas.{Among, among_map, among_flat, among_each}
-use Rattle.entries.proofs.EntryLemmas.{IsDocumentOf, IsKeyOf, same_id, same_rest}
-use Rattle.entries.proofs.HomeLemmas.{storable_of, one_index, document_or_key, same_index, same_ends, inside_of, not_inside, not_both, equal_back}
+use Rattle.entry_model.specs.State.{Collection, key_of, put_collection}
+use Rattle.entry_model.specs.StateEntries.{index_entry, index_entries, document_entries, collection_entries}
+use Rattle.entry_model.specs.LawfulState.{IsKept}
+use Rattle.entry_model.specs.StateLaws.{InsertsDocument, DeletesDocument}
+use Rattle.entry_model.proofs.MemberLemmas.{Among, among_map, among_flat, among_each}
+use Rattle.entries.proofs.EntryLemmas.{IsDocumentOf, IsKeyOf, same_rest}
+use Rattle.entry_model.proofs.LawfulParts.{same_id, storable_of}
+use Rattle.entries.proofs.HomeLemmas.{one_index, document_or_key, same_index, same_ends, inside_of, not_inside, not_both, equal_back}
 use Rattle.entries.proofs.StepLemmas.{Exchanged, exchanged_leads, old_kept, removals_alone}
-use Rattle.entries.proofs.KeyOfDocument.{same_keys, among_middle, among_around, among_there, others_of}
+use Rattle.entry_model.proofs.KeyOfDocument.{same_keys, among_middle, among_around, among_there, others_of}
 
 -- ---- one more
 

@@ -8,7 +8,7 @@ use Rattle.std.specs.Cmp.Lexicographic.{nat_list_cmp_total}
 use Rattle.std.proofs.lemmas.Cmp.{tied_itself}
 use Rattle.std.proofs.lemmas.Map.Lookups.{exact_bytes}
 use Rattle.tree_model.specs.Keys.{Entry, Edit, Each, IsUnder, Rises, key_cmp, keep_if, before, behind, entries_at, edit_map, change, value_at}
-use Rattle.entries.specs.StateEntries.{entry_keys}
+use Rattle.entry_model.specs.StateEntries.{entry_keys}
 
 -- ---- keys
 

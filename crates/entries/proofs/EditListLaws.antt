@@ -9,8 +9,8 @@ use Rattle.std.proofs.lemmas.Map.Lookups.{exact_bytes}
 use Rattle.tree_model.specs.Keys.{edit_keys}
 use Rattle.tree_model.specs.Keys.{Each, Edit, Entry, IsUnder, Rises, change, edit_map, key_cmp, value_at}
 use Rattle.entries.specs.EditList.{Noted, edits_in, with_edit, IsEditList, IsShortEdit, LeadsWith}
-use Rattle.entries.specs.State.{by_order}
-use Rattle.entries.specs.StateEntries.{Spells, entry_keys}
+use Rattle.entry_model.specs.State.{by_order}
+use Rattle.entry_model.specs.StateEntries.{Spells, entry_keys}
 use Rattle.entries.proofs.EditLemmas.{same_key, turned, value_after, change_value, edit_value, rises_change, one_map}
 
 -- ---- keys go on rising

@@ -7,10 +7,10 @@ use Rattle.std.specs.Ordering.{is_eq, ordering_reverse}
 use Rattle.std.specs.Cmp.Lexicographic.{nat_list_cmp_total}
 use Rattle.std.proofs.lemmas.Map.Lookups.{exact_bytes}
 use Rattle.tree_model.specs.Keys.{Entry, Edit, Each, IsUnder, Rises, key_cmp, edit_map, change, value_at}
-use Rattle.entries.specs.StateEntries.{Spells, entry_keys}
+use Rattle.entry_model.specs.StateEntries.{Spells, entry_keys}
 use Rattle.tree_model.specs.Keys.{edit_keys}
-use Rattle.entries.specs.EditOrder.{earlier_at, with_earlier, in_key_order}
-use Rattle.entries.specs.StateLaws.{LeadsOn, OrderIsFree, EditsSwap}
+use Rattle.entry_model.specs.EditOrder.{earlier_at, with_earlier, in_key_order}
+use Rattle.entry_model.specs.StateLaws.{LeadsOn, OrderIsFree, EditsSwap}
 use Rattle.entries.proofs.EditLemmas.{same_key, turned, value_after, change_value, rises_change, one_map}
 
 -- edits one list after the other

@@ -14,7 +14,7 @@ use Rattle.tree_model.specs.Keys.{edit_keys}
 use Rattle.tree_model.specs.Keys.{Edit, key_cmp}
 use Rattle.index.specs.Changes.{is_among}
 use Rattle.entries.specs.EditList.{Noted, edit_at, edit_of, edits_in, with_edit}
-use Rattle.entries.specs.State.{by_order}
+use Rattle.entry_model.specs.State.{by_order}
 use Rattle.entries.proofs.EditLemmas.{turned}
 
 abbrev vec_cmp : Vec ℕ → Vec ℕ → Ordering

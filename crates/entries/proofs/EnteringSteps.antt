@@ -1,76 +1,38 @@
 -- Where edits lead by which a document enters a collection.
-use Rattle.std.proofs.Common.{◌≡◌, Bool, true, false, List, [], ◌∷◌, ◌++◌, ◌⊎◌, inl, inr, length, map, take, Some, None, Ok, refl, sym, ap, subst, ◌∙◌}
+use Rattle.std.proofs.Common.{◌≡◌, Bool, true, false, List, [], ◌∷◌, ◌++◌, inl, inr, length, map, take, Some, None, Ok, refl, sym, ap, subst, ◌∙◌}
 use Rattle.std.proofs.Math.Seq.{take-append_seam}
-use Rattle.std.specs.Prelude.{◌&&◌, ◌||◌, ℕ, if◌then◌else◌, not, All}
+use Rattle.std.specs.Prelude.{◌&&◌, ◌||◌, ℕ, if◌then◌else◌, not}
 use Rattle.std.specs.List.{list_any}
-use Rattle.std.specs.Ordering.{is_eq}
-use Rattle.std.specs.declared.cmp.Ordering.{Ordering}
 use Rattle.std.specs.declared.cmp.Ordering.TheVariants as orders
 use Rattle.bson.specs.Tree.{Pairs}
 use Rattle.value_order.specs.Order.{compare}
 use Rattle.tree_model.specs.Keys.{Edit}
 use Rattle.index.specs.Definition.{Definition}
-use Rattle.entries.specs.Documents.{put_document}
-use Rattle.entries.specs.Entering.{DocumentWrite, Enters, NotesArrays, becomes_multikey, entered, with_document}
+use Rattle.entry_model.specs.Documents.{put_document}
+use Rattle.entry_model.specs.Entering.{DocumentWrite, Enters, NotesArrays, becomes_multikey, entered, with_document}
 use Rattle.entries.specs.Indexed.{InsertsInto, NotesIndexesOf, ReplacesIn}
 use Rattle.outcome.specs.Outcome.{unless}
 use Rattle.path.specs.declared.refusal.Refusal.TheVariants as refusals
 use Rattle.index.specs.KeyTexts.{encoded_keys, is_too_long, keys_in_all}
 use Rattle.index.specs.IndexKeys.{has_parallel_arrays, is_multikey, noted}
-use Rattle.entries.specs.LawfulState.{IsKept, IsLawfulState, IsStorable}
-use Rattle.entries.specs.State.{Collection, find_collection, key_of, put_collection}
-use Rattle.entries.specs.StateEntries.{Leads}
-use Rattle.entries.specs.StateLaws.{AreAlike, MayBecome}
-use Rattle.entries.specs.StateReads.{find_document}
-use Rattle.entries.proofs.DocumentPlaces.{IsBetween, IsInstead, placed, turned}
-use Rattle.entries.proofs.EnteringLemmas.{has_entered, stay_with}
-use Rattle.entries.proofs.FoundLawLemmas.{finds_put, put_twice}
-use Rattle.entries.proofs.HomeLemmas.{kept_of}
-use Rattle.entries.proofs.KeptSteps.{all_around, all_middle, kept_noted, noted_fields}
-use Rattle.entries.proofs.LawfulLaws.{stays_lawful}
-use Rattle.entries.proofs.MemberLemmas.{Among}
-use Rattle.entries.proofs.PlaceLemmas.{found_in, found_name}
+use Rattle.entry_model.specs.LawfulState.{IsKept, IsLawfulState, IsStorable}
+use Rattle.entry_model.specs.State.{Collection, find_collection, key_of, put_collection}
+use Rattle.entry_model.specs.StateEntries.{Leads}
+use Rattle.entry_model.specs.StateLaws.{AreAlike, MayBecome}
+use Rattle.entry_model.proofs.DocumentPlaces.{IsBetween, IsInstead, placed, all_put, none_between, some_instead}
+use Rattle.entry_model.proofs.EnteringLemmas.{has_entered, stay_with}
+use Rattle.entry_model.proofs.FoundLawLemmas.{finds_put, put_twice}
+use Rattle.entry_model.proofs.LawfulParts.{kept_of}
+use Rattle.entry_model.proofs.KeptSteps.{kept_noted, noted_fields}
+use Rattle.entry_model.proofs.LawfulLaws.{stays_lawful}
+use Rattle.entry_model.proofs.PlaceLemmas.{found_in, found_name}
 use Rattle.entries.proofs.StateEditLaws.{put_same}
-
-abbrev Below : Pairs → Pairs → Type 0
-Below d e = compare (key_of d) (key_of e) ≡ orders.Less
 
 -- what was written at the front of a list is there
 pub written_back : {X : Type 0} (n : ℕ) (out xs ys : List X) → out ≡ take n (xs ++ ys) → n ≡ length xs → out ≡ xs
 written_back n out xs ys is long = is ∙ ap (λ (m : ℕ). take m (xs ++ ys)) long ∙ take-append_seam xs ys
 
--- ---- what is found
-
--- those in front have another `_id`
-found_behind : (d : Pairs) (front rest : List Pairs) → ((e : Pairs) → Among e front → Below e d)
-    → find_document (front ++ rest) (key_of d) ≡ find_document rest (key_of d)
-found_behind d [] rest h = refl
-found_behind d (x ∷ front) rest h =
-    let above : compare (key_of d) (key_of x) ≡ orders.Greater = turned (key_of x) (key_of d) orders.Less (h x (inl refl)) in
-    ap (λ (o : Ordering). if is_eq o then Some x else find_document (front ++ rest) (key_of d)) above ∙ found_behind d front rest (λ e there. h e (inr there))
-
--- and those behind
-found_none : (d : Pairs) (back : List Pairs) → ((e : Pairs) → Among e back → Below d e) → find_document back (key_of d) ≡ None
-found_none d [] h = refl
-found_none d (x ∷ back) h =
-    ap (λ (o : Ordering). if is_eq o then Some x else find_document back (key_of d)) (h x (inl refl)) ∙ found_none d back (λ e there. h e (inr there))
-
--- none is found of a document that goes between others
-pub none_between : (d : Pairs) (ds : List Pairs) → IsBetween d ds → find_document ds (key_of d) ≡ None
-none_between d ds b = ap (λ (es : List Pairs). find_document es (key_of d)) b.split ∙ found_behind d b.front b.back b.behind ∙ found_none d b.back b.before
-
--- the one is found that it takes the place of
-pub some_instead : (d : Pairs) (ds : List Pairs) (b : IsInstead d ds) → find_document ds (key_of d) ≡ Some b.old
-some_instead d ds b =
-    ap (λ (es : List Pairs). find_document es (key_of d)) b.split ∙ found_behind d b.front (b.old ∷ b.back) b.behind
-    ∙ ap (λ (o : Ordering). if is_eq o then Some b.old else find_document b.back (key_of d)) (turned (key_of b.old) (key_of d) orders.Equal b.same)
-
 -- ---- what stays
-
--- with a document put, all are so that were and as it is
-pub all_put : (P : Pairs → Type 0) (d : Pairs) (ds : List Pairs) → IsBetween d ds ⊎ IsInstead d ds → All P ds → P d → All P (put_document d ds)
-all_put P d ds (inl b) h here = subst (All P) (sym b.put) (all_middle P b.front b.back d (subst (All P) b.split h) here)
-all_put P d ds (inr b) h here = subst (All P) (sym b.put) (all_middle P b.front b.back d (all_around P b.front b.back b.old (subst (All P) b.split h)) here)
 
 -- a collection within the limits stays so with a document that enters
 pub kept_entered : (c next : Collection) (w : DocumentWrite) → IsKept c → IsStorable w.document → entered c w ≡ Ok next → IsKept next

@@ -1,25 +1,15 @@
 -- What an entry's key tells: the collection, the index, and the text.
-use Rattle.std.proofs.Common.{◌≡◌, ℕ, zero, suc, ◌<◌, ◌^◌, List, [], ◌∷◌, drop, ◌⊎◌, inl, inr, refl, sym, ap, subst, ◌∙◌, arith, codes}
+use Rattle.std.proofs.Common.{◌≡◌, ℕ, zero, suc, ◌<◌, ◌^◌, List, [], ◌∷◌, drop, ◌⊎◌, inl, inr, refl, sym, ap, ◌∙◌, arith}
 use Rattle.std.specs.Int.{w32, from_be_bytes}
 use Rattle.std.proofs.lemmas.Nat.{from_be_bytes-to_be_bytes_4}
-use Rattle.std.specs.declared.cmp.Ordering.TheVariants.{Equal}
 use Rattle.bson.specs.Tree.{Pairs}
-use Rattle.bson.specs.Lookup.{lookup}
-use Rattle.bson.specs.Spelling.{pairs_bytes}
-use Rattle.bson.specs.SizingLaws.{frame_of-length}
-use Rattle.value_order.specs.Laws.{IsKey}
-use Rattle.value_order.specs.Order.{value, compare}
 use Rattle.value_order.specs.KeyText.{escaped_text, tree_text}
-use Rattle.value_order.specs.declared.texts.Direction.TheVariants as directions
-use Rattle.value_order.proofs.KeyLaws.{texts_agree}
 use Rattle.tree_model.specs.Keys.{Entry}
 use Rattle.index.specs.Definition.{Definition}
 use Rattle.index.specs.KeyTexts.{encoded_keys}
-use Rattle.entries.specs.State.{Collection, words, key_of}
-use Rattle.entries.specs.StateEntries.{key_under, catalogue_entry, document_entry, index_entry, index_entries, document_entries, collection_entries}
-use Rattle.entries.specs.LawfulState.{IsStorable}
-use Rattle.entries.proofs.MemberLemmas.{Among, among_map, among_image, among_flat, among_each}
-use Rattle.index.proofs.SpellableLaws.{Fits, IfFound, field_fits}
+use Rattle.entry_model.specs.State.{Collection, words, key_of}
+use Rattle.entry_model.specs.StateEntries.{key_under, catalogue_entry, document_entry, index_entry, index_entries, document_entries, collection_entries}
+use Rattle.entry_model.proofs.MemberLemmas.{Among, among_map, among_image, among_flat, among_each}
 
 -- ---- which entry it is
 
@@ -117,17 +107,3 @@ same_escaped (suc m ∷ a) (suc n ∷ b) e = λ i. ap first_of e i ∷ same_esca
 pub same_words : (a b : List ℕ) → tree_text (words a) ≡ tree_text (words b) → a ≡ b
 unfolding rest_of
 same_words a b e = same_escaped a b (ap rest_of e)
-
--- the `_id` of a document that may be stored is one that BSON can spell
-pub id_is_key : (d : Pairs) → IsStorable d → IsKey (value (key_of d))
-id_is_key d h =
-    let found : IfFound 1048576 (lookup d (codes "_id")) =
-    field_fits 1048576 d (codes "_id") h.lawful.lawful (omega (arith, h.size, frame_of-length (pairs_bytes d))) in
-    let fits : Fits 1048576 (key_of d) = subst (IfFound 1048576) h.key found in
-    (fits.lawful, fits.size)
-
-pub same_id : (d e : Pairs) → IsStorable d → IsStorable e → tree_text (key_of d) ≡ tree_text (key_of e) → compare (key_of d) (key_of e) ≡ Equal
-same_id d e hd he same = (texts_agree directions.Ascending (value (key_of d)) (value (key_of e)) (id_is_key d hd) (id_is_key e he)).0 same
-
-pub same_text : (d e : Pairs) → IsStorable d → IsStorable e → compare (key_of d) (key_of e) ≡ Equal → tree_text (key_of d) ≡ tree_text (key_of e)
-same_text d e hd he same = (texts_agree directions.Ascending (value (key_of d)) (value (key_of e)) (id_is_key d hd) (id_is_key e he)).1 same

@@ -3,11 +3,11 @@ use Rattle.std.proofs.Common.{◌≡◌, ℕ, Bool, true, false, List, [], ◌�
 use Rattle.std.specs.Prelude.{if◌then◌else◌}
 use Rattle.std.specs.Ordering.{is_eq}
 use Rattle.tree_model.specs.Keys.{Entry, Each, IsUnder, Rises, key_cmp, change, value_at}
-use Rattle.entries.specs.State.{Collection}
-use Rattle.entries.specs.StateEntries.{Leads, entry_keys, state_entries, puts, removals}
+use Rattle.entry_model.specs.State.{Collection}
+use Rattle.entry_model.specs.StateEntries.{Leads, entry_keys, state_entries, puts, removals}
 use Rattle.entries.proofs.EditLemmas.{same_key, key_itself, not_under_itself, value_after, change_value, rises_change, entry_is}
 use Rattle.entries.proofs.EditOrderLaws.{after_append}
-use Rattle.entries.proofs.MemberLemmas.{Among, among_of, contains_of}
+use Rattle.entry_model.proofs.MemberLemmas.{Among, among_of, contains_of}
 
 -- no two of them have one key
 abbrev pub IsMap : List Entry → Type 0

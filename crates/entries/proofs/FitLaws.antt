@@ -15,14 +15,15 @@ use Rattle.index.specs.IndexKeys.{index_keys, has_parallel_arrays}
 use Rattle.index.specs.KeyTexts.{key_bytes, encoded_keys, is_too_long, keys_in}
 use Rattle.path.specs.declared.refusal.Refusal.{Refusal}
 use Rattle.path.specs.declared.refusal.Refusal.TheVariants as refusals
-use Rattle.entries.specs.State.{Collection, words, key_of}
-use Rattle.entries.specs.StateEntries.{key_under, catalogue_entry, state_entries}
-use Rattle.entries.specs.LawfulState.{IsKept}
-use Rattle.entries.specs.StateLaws.{EntriesFit}
-use Rattle.entries.proofs.MemberLemmas.{Among, among_of, among_map, of_all}
+use Rattle.entry_model.specs.State.{Collection, words, key_of}
+use Rattle.entry_model.specs.StateEntries.{key_under, catalogue_entry, state_entries}
+use Rattle.entry_model.specs.LawfulState.{IsKept}
+use Rattle.entry_model.specs.StateLaws.{EntriesFit}
+use Rattle.entry_model.proofs.MemberLemmas.{Among, among_of, among_map, of_all}
 use Rattle.entries.proofs.EntryLemmas.{IsOneOf}
-use Rattle.entries.proofs.HomeLemmas.{home_of, kept_of, storable_of, listed_of}
-use Rattle.entries.proofs.KeyOfDocument.{test_among, among_test}
+use Rattle.entries.proofs.HomeLemmas.{home_of}
+use Rattle.entry_model.proofs.LawfulParts.{kept_of, storable_of, listed_of}
+use Rattle.entry_model.proofs.KeyOfDocument.{test_among, among_test}
 use Rattle.index.proofs.SetLemmas.{set_among}
 use Rattle.entries.proofs.CatalogueEntries.{value_size}
 use Rattle.entries.proofs.OneStateLaws.{lawful_indexes}
@@ -31,11 +32,6 @@ pub escaped_size : (bs : List ℕ) → length (escaped_text bs) ≤ 2 * length b
 escaped_size [] = omega arith
 escaped_size (zero ∷ bs) = omega (arith, escaped_size bs)
 escaped_size (suc b ∷ bs) = omega (arith, escaped_size bs)
-
-pub escaped_long : (bs : List ℕ) → length bs + 2 ≤ length (escaped_text bs)
-escaped_long [] = omega arith
-escaped_long (zero ∷ bs) = omega (arith, escaped_long bs)
-escaped_long (suc b ∷ bs) = omega (arith, escaped_long bs)
 
 pub key_size : (collection index : ℕ) (text : List ℕ) → length (key_under collection index text) ≡ 8 + length text
 key_size c i text = omega (arith, length-append (to_be_bytes w32 c) (to_be_bytes w32 i ++ text), length-append (to_be_bytes w32 i) text)

@@ -12,34 +12,26 @@ use Rattle.value_order.specs.KeyText.{tree_text}
 use Rattle.value_order.specs.TotalLaws.{compare_total}
 use Rattle.tree_model.specs.Keys.{Entry}
 use Rattle.index.specs.Definition.{Definition}
-use Rattle.entries.specs.State.{Collection, words, key_of, uses}
-use Rattle.entries.specs.StateEntries.{key_under, catalogue_entry, document_entry, collection_entries, state_entries}
-use Rattle.entries.specs.LawfulState.{IsStorable, IsIndexOf, IsKept, AreNumberedApart, IsLawfulState}
-use Rattle.entries.proofs.MemberLemmas.{Among, among_flat, of_all, of_pairs}
+use Rattle.entry_model.specs.State.{Collection, words, key_of, uses}
+use Rattle.entry_model.specs.StateEntries.{key_under, catalogue_entry, document_entry, collection_entries, state_entries}
+use Rattle.entry_model.specs.LawfulState.{IsKept, AreNumberedApart, IsLawfulState}
+use Rattle.entry_model.proofs.MemberLemmas.{Among, among_flat, of_pairs}
 use Rattle.entries.proofs.EditLemmas.{entry_is}
 use Rattle.entries.proofs.ExchangeLaws.{IsMap}
-use Rattle.entries.proofs.PlaceLemmas.{name_itself}
-use Rattle.entries.proofs.EntryLemmas.{IsDocumentOf, IsKeyOf, IsOneOf, one_of, same_first, same_second, same_rest, same_words, same_id}
+use Rattle.entry_model.proofs.PlaceLemmas.{name_itself}
+use Rattle.entries.proofs.EntryLemmas.{IsDocumentOf, IsKeyOf, IsOneOf, one_of, same_first, same_second, same_rest, same_words}
+use Rattle.entry_model.proofs.LawfulParts.{same_id, kept_of, listed_of, storable_of}
 
 -- ---- numbers within their limits
 
-pub kept_of : (cs : List Collection) (c : Collection) → IsLawfulState cs → Among c cs → IsKept c
-kept_of cs c h there = of_all IsKept cs c h.kept there
-
 pub number_fits : (c : Collection) → IsKept c → c.number < 2 ^ 32
 number_fits c kept = omega (arith, kept.most)
-
-pub listed_of : (c : Collection) (i : Definition) → IsKept c → Among i c.indexes → IsIndexOf c.documents i
-listed_of c i kept there = of_all (IsIndexOf c.documents) c.indexes i kept.indexes there
 
 index_fits : (c : Collection) (i : Definition) → IsKept c → Among i c.indexes → i.number < 2 ^ 32
 index_fits c i kept there = omega (arith, (listed_of c i kept there).lawful.most)
 
 index_from_one : (c : Collection) (i : Definition) → IsKept c → Among i c.indexes → 1 ≤ i.number
 index_from_one c i kept there = (listed_of c i kept there).lawful.numbered
-
-pub storable_of : (c : Collection) (d : Pairs) → IsKept c → Among d c.documents → IsStorable d
-storable_of c d kept there = of_all IsStorable c.documents d kept.storable there
 
 -- ---- one collection
 

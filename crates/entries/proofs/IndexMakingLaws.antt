@@ -6,7 +6,7 @@ use Rattle.std.specs.List.{AllPairs, list_any, remove}
 use Rattle.std.specs.Ordering.{is_eq}
 use Rattle.std.specs.declared.cmp.Ordering.{Ordering}
 use Rattle.std.specs.declared.cmp.Ordering.TheVariants as orders
-use Rattle.std.proofs.lemmas.List.{map-append, take-append-drop}
+use Rattle.std.proofs.lemmas.List.{map-append}
 use Rattle.std.proofs.lemmas.List.Elements.{All-head}
 use Rattle.bson.specs.Tree.{Pairs}
 use Rattle.value_order.specs.KeyText.{tree_text}
@@ -18,34 +18,34 @@ use Rattle.path.specs.declared.refusal.Refusal.{Refusal}
 use Rattle.path.specs.declared.refusal.Refusal.TheVariants as refusals
 use Rattle.index.specs.Changes.{is_among}
 use Rattle.index.specs.Definition.{Definition}
-use Rattle.entries.specs.Documents.{put_document}
-use Rattle.entries.specs.Entering.{AreIndexed, DocumentWrite, clashes, enter_each, entered, is_duplicate, is_other, with_document}
+use Rattle.entry_model.specs.Documents.{put_document}
+use Rattle.entry_model.specs.Entering.{AreIndexed, DocumentWrite, clashes, enter_each, entered, is_duplicate, is_other, with_document}
 use Rattle.entries.specs.IndexBuilding.{HasPutEntries, HasRemovedEntries}
-use Rattle.entries.specs.IndexMaking.{Begins, DropsIndexAt, HasEntries, MakesIndexOf, RefusesNext, TakesNext, alone, as_new, with_index, without_index_at}
+use Rattle.entries.specs.IndexMaking.{Begins, DropsIndexAt, HasEntries, MakesIndexOf, RefusesNext, TakesNext}
+use Rattle.entry_model.specs.WithIndex.{alone, as_new, with_index, without_index_at}
 use Rattle.entries.specs.Indexed.{GoesOnBy, catalogue_put}
 use Rattle.index.specs.IndexKeys.{has_parallel_arrays, is_multikey, noted}
 use Rattle.index.specs.KeyTexts.{encoded_keys, is_too_long, keys_in, keys_in_all}
-use Rattle.entries.specs.LawfulState.{IsIndexOf, IsKept, IsRising, IsStorable}
+use Rattle.entry_model.specs.LawfulState.{IsIndexOf, IsKept, IsRising, IsStorable}
 use Rattle.entries.specs.OtherKeys.{another_has, has_other_key, is_another, puts_another, puts_any}
-use Rattle.entries.specs.State.{Collection, by_order, find_collection, key_of}
-use Rattle.entries.specs.StateEntries.{index_entries, key_under, puts}
-use Rattle.entries.specs.StateLaws.{MayBecome}
-use Rattle.entries.specs.StateReads.{find_document}
+use Rattle.entry_model.specs.State.{Collection, by_order, find_collection, key_of}
+use Rattle.entry_model.specs.StateEntries.{index_entries, key_under, puts}
+use Rattle.entry_model.specs.StateLaws.{MayBecome}
+use Rattle.entry_model.specs.StateReads.{find_document}
 use Rattle.entries.specs.declared.making.NewEntries.{NewEntries}
 use Rattle.entries.proofs.BuildingLaws.{drops_index_of_all, makes_index_of_all, puts_one_more}
-use Rattle.entries.proofs.DocumentPlaces.{turned}
+use Rattle.entry_model.proofs.DocumentPlaces.{turned}
 use Rattle.entries.proofs.EditLemmas.{rises_change}
-use Rattle.entries.proofs.EnteringLemmas.{stay_indexed}
-use Rattle.entries.proofs.HomeLemmas.{kept_of}
+use Rattle.entry_model.proofs.EnteringLemmas.{stay_indexed}
+use Rattle.entry_model.proofs.LawfulParts.{kept_of}
 use Rattle.entries.proofs.IndexedLaws.{known_one}
-use Rattle.entries.proofs.KeptSteps.{kept_with_index, kept_without_index, noted_number}
-use Rattle.entries.proofs.LawfulLaws.{all_of, pairs_of, stays_lawful}
-use Rattle.entries.proofs.MemberLemmas.{Among, among_back, among_front, first_of, of_all}
+use Rattle.entry_model.proofs.KeptSteps.{kept_with_index, kept_without_index, noted_number, cut_at}
+use Rattle.entry_model.proofs.LawfulLaws.{all_of, pairs_of, stays_lawful}
+use Rattle.entry_model.proofs.MemberLemmas.{Among, among_back, among_front, first_of, of_all}
 use Rattle.entries.proofs.OtherEditLaws.{after_edits}
 use Rattle.entries.proofs.OtherKeyLaws.{tells_put}
-use Rattle.entries.proofs.PlaceLemmas.{found_in, found_name}
+use Rattle.entry_model.proofs.PlaceLemmas.{found_in, found_name}
 use Rattle.entries.proofs.SharedKeyLemmas.{is_there, swapped}
-use Rattle.index.proofs.TextLemmas.{drop_step}
 
 pub none_left : {X : Type 0} (xs : List X) → length xs ≤ 0 → xs ≡ []
 none_left [] le = refl
@@ -334,12 +334,6 @@ makes_index_of old mid new name number indexes n few continues catalogue a b c i
     may = record { lawful = lawful; found = subst (λ (m : List ℕ). find_collection b m ≡ Some c) named found; named = refl; numbered = refl; kept = kept }
 
 -- ---- the collection without one
-
--- what stands around a place
-pub cut_at : {X : Type 0} (xs : List X) (i : ℕ) (x : X) → i < length xs → x ≡ get_or xs i x → xs ≡ take i xs ++ x ∷ drop (suc i) xs
-cut_at xs i x within is =
-    let next : i + 1 ≡ suc i = omega arith in
-    sym (take-append-drop i xs) ∙ ap (λ (ys : List _). take i xs ++ ys) (drop_step xs i x within is ∙ ap (λ (n : ℕ). x ∷ drop n xs) next)
 
 pub drops_index_at : (old new : List Edit) (name : List ℕ) (number : ℕ) (indexes : List Definition) (at : ℕ) → at < length indexes
     → GoesOnBy old (catalogue_put name number (remove indexes at) ∷ []) new → DropsIndexAt old new name number indexes at

@@ -5,16 +5,16 @@ use Rattle.bson.specs.Tree.{Pairs}
 use Rattle.tree_model.specs.Keys.{Entry}
 use Rattle.index.specs.Definition.{Definition}
 use Rattle.index.specs.KeyTexts.{encoded_keys}
-use Rattle.entries.specs.State.{Collection, key_of}
-use Rattle.entries.specs.StateEntries.{catalogue_entry, document_entry, index_entry, index_entries, document_entries, collection_entries}
-use Rattle.entries.specs.LawfulState.{IsKept}
-use Rattle.entries.specs.StateLaws.{entries_in, MakesIndex, DropsIndex, AreAlike, NotesIndexes}
-use Rattle.entries.proofs.MemberLemmas.{Among, among_map, among_append, among_front, among_back, among_flat, among_each}
+use Rattle.entry_model.specs.State.{Collection, key_of}
+use Rattle.entry_model.specs.StateEntries.{catalogue_entry, document_entry, index_entry, index_entries, document_entries, collection_entries}
+use Rattle.entry_model.specs.LawfulState.{IsKept}
+use Rattle.entry_model.specs.StateLaws.{entries_in, MakesIndex, DropsIndex, AreAlike, NotesIndexes}
+use Rattle.entry_model.proofs.MemberLemmas.{Among, among_map, among_append, among_front, among_back, among_flat, among_each}
 use Rattle.entries.proofs.ExchangeLaws.{HasKey}
 use Rattle.entries.proofs.EntryLemmas.{IsKeyOf}
 use Rattle.entries.proofs.HomeLemmas.{document_or_key, same_index}
 use Rattle.entries.proofs.StepLemmas.{Exchanged, exchanged_leads, old_kept}
-use Rattle.entries.proofs.KeyOfDocument.{among_middle, among_around, among_there, others_of}
+use Rattle.entry_model.proofs.KeyOfDocument.{among_middle, among_around, among_there, others_of}
 
 -- ---- one more
 

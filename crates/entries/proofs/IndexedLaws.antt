@@ -16,14 +16,14 @@ use Rattle.entries.specs.EditList.{with_edit}
 use Rattle.index.specs.IndexKeys.{has_parallel_arrays}
 use Rattle.entries.specs.Indexed.{with_edits, NotesSome, entries_at, entries_in_all, InsertsInto, DeletesFrom}
 use Rattle.index.specs.KeyTexts.{encoded_keys, is_too_long, keys_in, keys_in_all}
-use Rattle.entries.specs.State.{Collection, key_of, put_collection}
-use Rattle.entries.specs.StateEntries.{key_under, document_entry, document_entries, index_entries, puts, removal_of, removals, Leads}
+use Rattle.entry_model.specs.State.{Collection, key_of, put_collection}
+use Rattle.entry_model.specs.StateEntries.{key_under, document_entry, document_entries, index_entries, puts, removal_of, removals, Leads}
 use Rattle.index.specs.View.{texts_of}
 use Rattle.entries.proofs.DocumentSteps.{inserts_document, deletes_document}
 use Rattle.entries.proofs.FitLaws.{none_any, short_within}
-use Rattle.entries.proofs.LawfulLaws.{all_of}
+use Rattle.entry_model.proofs.LawfulLaws.{all_of}
 use Rattle.entries.proofs.ManyEditsLaws.{noted_leads}
-use Rattle.entries.proofs.MemberLemmas.{Among, among_map, among_image}
+use Rattle.entry_model.proofs.MemberLemmas.{Among, among_map, among_image}
 
 -- ---- keys
 

@@ -14,15 +14,16 @@ use Rattle.value_order.proofs.KeyLaws.{texts_order}
 use Rattle.tree_model.specs.Keys.{Entry, Each, IsUnder, Rises}
 use Rattle.index.specs.Definition.{Definition}
 use Rattle.index.specs.KeyTexts.{encoded_keys}
-use Rattle.entries.specs.State.{Collection, words, key_of}
-use Rattle.entries.specs.StateEntries.{key_under, catalogue_entry, document_entry, index_entry, index_entries, collection_entries, entry_keys}
-use Rattle.entries.specs.LawfulState.{IsKept}
-use Rattle.entries.specs.StateLaws.{entries_in}
-use Rattle.entries.specs.StateReads.{SpellsLawful, entries_under, ListsCollections, ListsDocuments, ListsIndex}
-use Rattle.entries.proofs.MemberLemmas.{Among, among_of, contains_of, among_map, among_image, among_flat, among_each, first_of}
-use Rattle.entries.proofs.PlaceLemmas.{found_in}
-use Rattle.entries.proofs.EntryLemmas.{IsOneOf, IsDocumentOf, IsKeyOf, document_among, keyed_among, key_among, id_is_key}
-use Rattle.entries.proofs.HomeLemmas.{Home, kept_of, storable_of, listed_of, number_fits, one_number, one_index}
+use Rattle.entry_model.specs.State.{Collection, words, key_of}
+use Rattle.entry_model.specs.StateEntries.{key_under, catalogue_entry, document_entry, index_entry, index_entries, collection_entries, entry_keys}
+use Rattle.entry_model.specs.LawfulState.{IsKept}
+use Rattle.entry_model.specs.StateLaws.{entries_in}
+use Rattle.entry_model.specs.StateReads.{SpellsLawful, entries_under, ListsCollections, ListsDocuments, ListsIndex}
+use Rattle.entry_model.proofs.MemberLemmas.{Among, among_of, contains_of, among_map, among_image, among_flat, among_each, first_of}
+use Rattle.entry_model.proofs.PlaceLemmas.{found_in}
+use Rattle.entries.proofs.EntryLemmas.{IsOneOf, IsDocumentOf, IsKeyOf, document_among, keyed_among, key_among}
+use Rattle.entry_model.proofs.LawfulParts.{id_is_key, kept_of, storable_of, listed_of}
+use Rattle.entries.proofs.HomeLemmas.{Home, number_fits, one_number, one_index}
 use Rattle.entries.proofs.CatalogueEntries.{text_size}
 use Rattle.entries.proofs.SpelledLaws.{same_map}
 use Rattle.entries.proofs.WindowLemmas.{is_inside, under_cmp, inside_there, among_window, window_among, window_rises}

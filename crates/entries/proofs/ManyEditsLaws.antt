@@ -4,8 +4,8 @@ use Rattle.tree_model.specs.Keys.{edit_keys}
 use Rattle.tree_model.specs.Keys.{Entry, Edit, Rises, change}
 use Rattle.entries.specs.EditList.{with_edit}
 use Rattle.entries.specs.Indexed.{with_edits, NotesUpTo, NotesSome, GoesOnBy}
-use Rattle.entries.specs.State.{Collection}
-use Rattle.entries.specs.StateEntries.{Spells, Leads}
+use Rattle.entry_model.specs.State.{Collection}
+use Rattle.entry_model.specs.StateEntries.{Spells, Leads}
 use Rattle.entries.proofs.EditListLaws.{with_change, with_rises}
 use Rattle.entries.proofs.EditOrderLaws.{change_append}
 

@@ -10,8 +10,8 @@ use Rattle.tree_model.specs.EditView.{HasRoom, edit_in}
 use Rattle.tree_model.specs.Keys.{Each, Edit}
 use Rattle.tree_model.specs.declared.edit.Edit.{Edit as TreeEdit}
 use Rattle.entries.specs.EditList.{IsShortEdit, LeadsWith, Noted, edit_of, edits_in}
-use Rattle.entries.specs.State.{words}
-use Rattle.entries.specs.StateEntries.{key_under, catalogue_value}
+use Rattle.entry_model.specs.State.{words}
+use Rattle.entry_model.specs.StateEntries.{key_under, catalogue_value}
 use Rattle.entries.proofs.CatalogueEntries.{value_size}
 use Rattle.entries.proofs.FitLaws.{escaped_size, key_size}
 

@@ -14,14 +14,15 @@ use Rattle.value_order.specs.KeyText.{tree_text}
 use Rattle.std.proofs.lemmas.Cmp.{tied_itself}
 use Rattle.tree_model.specs.Keys.{Entry}
 use Rattle.index.specs.Definition.{Definition, IsDefinition}
-use Rattle.entries.specs.State.{Collection, words, key_of}
-use Rattle.entries.specs.StateEntries.{catalogue_entry, document_entry, collection_entries, state_entries, Spells}
-use Rattle.entries.specs.LawfulState.{IsStorable, IsIndexOf, IsKept, IsLawfulState}
-use Rattle.entries.specs.StateLaws.{SpellsOne}
-use Rattle.entries.proofs.MemberLemmas.{Among, among_of, contains_of, among_each, first_of}
-use Rattle.entries.proofs.PlaceLemmas.{name_itself}
+use Rattle.entry_model.specs.State.{Collection, words, key_of}
+use Rattle.entry_model.specs.StateEntries.{catalogue_entry, document_entry, collection_entries, state_entries, Spells}
+use Rattle.entry_model.specs.LawfulState.{IsStorable, IsIndexOf, IsKept, IsLawfulState}
+use Rattle.entry_model.specs.StateLaws.{SpellsOne}
+use Rattle.entry_model.proofs.MemberLemmas.{Among, among_of, contains_of, among_each, first_of}
+use Rattle.entry_model.proofs.PlaceLemmas.{name_itself}
 use Rattle.entries.proofs.EntryLemmas.{IsOneOf, document_among, same_first, same_rest, same_words}
-use Rattle.entries.proofs.HomeLemmas.{home_of, kept_of, storable_of, not_inside, inside_of, not_both, one_number, document_or_key, number_fits}
+use Rattle.entries.proofs.HomeLemmas.{home_of, not_inside, inside_of, not_both, one_number, document_or_key, number_fits}
+use Rattle.entry_model.proofs.LawfulParts.{kept_of, storable_of}
 use Rattle.entries.proofs.CatalogueEntries.{same_value}
 
 -- ---- lists in order with the same members

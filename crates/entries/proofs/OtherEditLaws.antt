@@ -9,12 +9,12 @@ use Rattle.tree_model.specs.Keys.{edit_keys}
 use Rattle.tree_model.specs.Keys.{Each, Edit, Entry, IsUnder, Rises, change, is_within, key_cmp, keep_if, value_at, window}
 use Rattle.index.specs.Changes.{is_among}
 use Rattle.entries.specs.OtherKeys.{is_another, puts_another, IsEndOf}
-use Rattle.entries.specs.StateEntries.{entry_keys}
+use Rattle.entry_model.specs.StateEntries.{entry_keys}
 use Rattle.entries.proofs.EditLemmas.{key_itself, same_key, turned, value_after, change_value, rises_change}
 use Rattle.entries.proofs.EditListLaws.{untouched}
 use Rattle.entries.proofs.ExchangeLaws.{value_entry, entry_value}
 use Rattle.entries.proofs.FrontLemmas.{another_told, goes_on_between, not_under_front, starts_there}
-use Rattle.entries.proofs.MemberLemmas.{Among}
+use Rattle.entry_model.proofs.MemberLemmas.{Among}
 
 -- ---- tests of lists
 

@@ -14,20 +14,21 @@ use Rattle.tree_model.specs.Keys.{Entry, before, behind, change, edit_map, key_c
 use Rattle.index.specs.Changes.{is_among}
 use Rattle.index.specs.Definition.{Definition}
 use Rattle.index.specs.KeyTexts.{key_bytes, encoded_keys}
-use Rattle.entries.specs.LawfulState.{IsStorable, IsKept}
+use Rattle.entry_model.specs.LawfulState.{IsStorable, IsKept}
 use Rattle.entries.specs.OtherKeys.{is_another, has_other_key, another_has, TellsOtherKey, TellsOtherPut}
-use Rattle.entries.specs.State.{Collection, key_of}
-use Rattle.entries.specs.StateEntries.{index_entry, index_entries, key_under, put_of, puts}
+use Rattle.entry_model.specs.State.{Collection, key_of}
+use Rattle.entry_model.specs.StateEntries.{index_entry, index_entries, key_under, put_of, puts}
 use Rattle.entries.proofs.EditLemmas.{key_itself, value_after, change_value}
-use Rattle.entries.proofs.EntryLemmas.{IsOneOf, key_among, keyed_among, same_first, same_second, same_rest, same_id, same_text}
+use Rattle.entries.proofs.EntryLemmas.{IsOneOf, key_among, keyed_among, same_first, same_second, same_rest}
+use Rattle.entry_model.proofs.LawfulParts.{same_id, same_text, kept_of, storable_of}
 use Rattle.entries.proofs.ExchangeLaws.{value_entry}
 use Rattle.entries.proofs.FrontLemmas.{another_told, another_there}
-use Rattle.entries.proofs.HomeLemmas.{Home, kept_of, storable_of, number_fits, one_number}
-use Rattle.entries.proofs.KeyOfDocument.{IsEncoded, encoded_of, same_back, test_among, among_test}
-use Rattle.entries.proofs.MemberLemmas.{Among, among_append, among_each, among_flat, among_map, among_of, contains_of, of_all}
+use Rattle.entries.proofs.HomeLemmas.{Home, number_fits, one_number}
+use Rattle.entry_model.proofs.KeyOfDocument.{IsEncoded, encoded_of, same_back, test_among, among_test}
+use Rattle.entry_model.proofs.MemberLemmas.{Among, among_append, among_each, among_flat, among_map, among_of, contains_of, of_all}
 use Rattle.index.proofs.OrderLaws.{keys_agree}
 use Rattle.entries.proofs.OtherEditLaws.{any_told, any_there, one_truth}
-use Rattle.entries.proofs.PlaceLemmas.{found_in}
+use Rattle.entry_model.proofs.PlaceLemmas.{found_in}
 use Rattle.entries.proofs.ReadLaws.{there_of, in_map, IsUnderBoth, catalogue_under, document_under, key_under_of}
 use Rattle.entries.proofs.TellingLaws.{tells_document}
 

@@ -1,7 +1,7 @@
 -- What is found in a map that spells a lawful state.
 use Rattle.std.proofs.Common.{◌≡◌, ℕ, ◌+◌, ◌<◌, ◌^◌, Bool, true, false, List, [], ◌∷◌, ◌++◌, Option, Some, None, option_map, inl, inr, refl, sym, ap, subst}
 use Rattle.std.proofs.Common.{◌∙◌, arith}
-use Rattle.std.specs.Prelude.{if◌then◌else◌, unwrap_or}
+use Rattle.std.specs.Prelude.{if◌then◌else◌}
 use Rattle.std.specs.Str.{bytes_eq}
 use Rattle.std.specs.Ordering.{is_eq}
 use Rattle.std.specs.declared.cmp.Ordering.{Ordering}
@@ -14,16 +14,18 @@ use Rattle.value_order.specs.KeyText.{tree_text}
 use Rattle.value_order.specs.declared.texts.Direction.TheVariants as directions
 use Rattle.value_order.proofs.KeyLaws.{texts_agree}
 use Rattle.tree_model.specs.Keys.{Entry, Rises, value_at}
-use Rattle.entries.specs.State.{Collection, words, key_of, find_collection}
-use Rattle.entries.specs.StateEntries.{key_under, catalogue_entry, document_entry, collection_entries, state_entries, entry_keys}
-use Rattle.entries.specs.LawfulState.{IsKept}
-use Rattle.entries.specs.StateReads.{SpellsLawful, catalogue_bytes, find_document, FindsCollection, FindsDocument}
-use Rattle.entries.proofs.MemberLemmas.{Among, among_of, contains_of, among_each}
+use Rattle.entry_model.specs.State.{Collection, words, key_of, find_collection}
+use Rattle.entry_model.specs.StateEntries.{key_under, catalogue_entry, document_entry, collection_entries, state_entries, entry_keys}
+use Rattle.entry_model.specs.LawfulState.{IsKept}
+use Rattle.entry_model.specs.StateReads.{SpellsLawful, catalogue_bytes, find_document, FindsCollection, FindsDocument}
+use Rattle.entry_model.proofs.MemberLemmas.{Among, among_of, contains_of, among_each}
 use Rattle.entries.proofs.ExchangeLaws.{value_entry, entry_value}
-use Rattle.entries.proofs.PlaceLemmas.{found_in, found_name}
-use Rattle.entries.proofs.EntryLemmas.{IsOneOf, IsDocumentOf, IsKeyOf, document_among, id_is_key, same_first, same_second, same_rest, same_words}
-use Rattle.entries.proofs.HomeLemmas.{Home, home_of, kept_of, storable_of, listed_of, number_fits, inside_of, one_number}
+use Rattle.entry_model.proofs.PlaceLemmas.{found_in, found_name}
+use Rattle.entries.proofs.EntryLemmas.{IsOneOf, IsDocumentOf, IsKeyOf, document_among, same_first, same_second, same_rest, same_words}
+use Rattle.entry_model.proofs.LawfulParts.{id_is_key, kept_of, storable_of, listed_of}
+use Rattle.entries.proofs.HomeLemmas.{Home, home_of, number_fits, inside_of, one_number}
 use Rattle.entries.proofs.WindowLemmas.{is_inside, inside_same}
+use Rattle.entry_model.proofs.DocumentPlaces.{document_some}
 
 -- ---- entries of a map, by the collection
 
@@ -124,19 +126,6 @@ tie : (o : Ordering) → is_eq o ≡ true → o ≡ Equal
 tie Less e = absurd cc
 tie Equal e = refl
 tie Greater e = absurd cc
-
-pub document_some : (ds : List Pairs) (id : Tree) (d : Pairs) → find_document ds id ≡ Some d → Among d ds × (compare id (key_of d) ≡ Equal)
-document_some [] id d e = absurd cc
-document_some (x ∷ ds) id d e = by (is_eq (compare id (key_of x))) refl e (document_some ds id d)
-  where
-    some_is : Some x ≡ Some d → x ≡ d
-    some_is p = ap (λ (o : Option Pairs). unwrap_or o x) p
-
-    by : (b : Bool) → is_eq (compare id (key_of x)) ≡ b → (if b then Some x else find_document ds id) ≡ Some d
-        → (find_document ds id ≡ Some d → Among d ds × (compare id (key_of d) ≡ Equal)) → Among d (x ∷ ds) × (compare id (key_of d) ≡ Equal)
-    by true same f later =
-        let is : x ≡ d = some_is f in (inl (sym is), ap (λ (y : Pairs). compare id (key_of y)) (sym is) ∙ tie (compare id (key_of x)) same)
-    by false other f later = let r = later f in (inr r.0, r.1)
 
 document_none : (ds : List Pairs) (id : Tree) (d : Pairs) → find_document ds id ≡ None → Among d ds → compare id (key_of d) ≡ Equal → ⊥
 document_none [] id d e h f = h

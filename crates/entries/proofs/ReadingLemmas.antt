@@ -10,9 +10,9 @@ use Rattle.bson.specs.Spelling.{frame_of, pairs_bytes, Spells as SpellsDocument}
 use Rattle.bson_bytes.specs.declared.fault.BsonFault.{BsonFault}
 use Rattle.value_order.specs.KeyText.{escaped_text, tree_text}
 use Rattle.entries.specs.Escaping.{unescaped}
-use Rattle.entries.specs.LawfulState.{IsStorable}
-use Rattle.entries.specs.State.{words}
-use Rattle.entries.specs.StateEntries.{key_under}
+use Rattle.entry_model.specs.LawfulState.{IsStorable}
+use Rattle.entry_model.specs.State.{words}
+use Rattle.entry_model.specs.StateEntries.{key_under}
 
 -- ---- names
 

@@ -13,18 +13,17 @@ use Rattle.index.specs.Definition.{Definition}
 use Rattle.index.specs.IndexKeys.{index_keys}
 use Rattle.entries.specs.Indexed.{with_edits, NotesSome, entries_in_all, without_all, replacing_in, ReplacesIn}
 use Rattle.index.specs.KeyTexts.{key_bytes, encoded_keys, is_too_long, keys_in_all}
-use Rattle.entries.specs.State.{Collection, key_of, put_collection}
-use Rattle.entries.specs.StateEntries.{Leads}
-use Rattle.entries.specs.StateLaws.{own_entries}
+use Rattle.entry_model.specs.State.{Collection, key_of, put_collection}
+use Rattle.entry_model.specs.StateEntries.{Leads}
+use Rattle.entry_model.specs.StateLaws.{own_entries}
 use Rattle.index.specs.View.{texts_of}
-use Rattle.entries.proofs.EntryLemmas.{same_text}
+use Rattle.entry_model.proofs.LawfulParts.{same_text, storable_of}
 use Rattle.entries.proofs.FitLaws.{none_any, short_within}
-use Rattle.entries.proofs.HomeLemmas.{storable_of}
 use Rattle.entries.proofs.IndexedLaws.{key_lists, known}
-use Rattle.entries.proofs.KeyOfDocument.{among_there}
-use Rattle.entries.proofs.LawfulLaws.{all_of}
+use Rattle.entry_model.proofs.KeyOfDocument.{among_there}
+use Rattle.entry_model.proofs.LawfulLaws.{all_of}
 use Rattle.entries.proofs.ManyEditsLaws.{with_edits-append, noted_leads}
-use Rattle.entries.proofs.MemberLemmas.{Among, among_map, among_image}
+use Rattle.entry_model.proofs.MemberLemmas.{Among, among_map, among_image}
 use Rattle.entries.proofs.ReplacingSteps.{replaces_document}
 use Rattle.index.proofs.SetLemmas.{set_sorted}
 use Rattle.entries.proofs.StepLemmas.{old_kept}

@@ -9,16 +9,17 @@ use Rattle.tree_model.specs.Keys.{Entry}
 use Rattle.index.specs.Changes.{is_among, without}
 use Rattle.index.specs.Definition.{Definition}
 use Rattle.index.specs.KeyTexts.{encoded_keys, entry_key}
-use Rattle.entries.specs.State.{Collection, key_of}
-use Rattle.entries.specs.StateEntries.{key_under, document_entry, index_entry, index_entries, document_entries, collection_entries}
-use Rattle.entries.specs.LawfulState.{IsKept}
-use Rattle.entries.specs.StateLaws.{own_entries, ReplacesDocument}
-use Rattle.entries.proofs.MemberLemmas.{Among, among_map, among_image, among_flat, among_each}
+use Rattle.entry_model.specs.State.{Collection, key_of}
+use Rattle.entry_model.specs.StateEntries.{key_under, document_entry, index_entry, index_entries, document_entries, collection_entries}
+use Rattle.entry_model.specs.LawfulState.{IsKept}
+use Rattle.entry_model.specs.StateLaws.{own_entries, ReplacesDocument}
+use Rattle.entry_model.proofs.MemberLemmas.{Among, among_map, among_image, among_flat, among_each}
 use Rattle.entries.proofs.ExchangeLaws.{HasKey}
-use Rattle.entries.proofs.EntryLemmas.{IsKeyOf, IsOneOf, one_of, keyed_among, document_among, same_text}
-use Rattle.entries.proofs.HomeLemmas.{storable_of, one_document, one_index, document_or_key, same_index, same_ends, inside_of, not_inside}
+use Rattle.entries.proofs.EntryLemmas.{IsKeyOf, IsOneOf, one_of, keyed_among, document_among}
+use Rattle.entry_model.proofs.LawfulParts.{same_text, storable_of}
+use Rattle.entries.proofs.HomeLemmas.{one_document, one_index, document_or_key, same_index, same_ends, inside_of, not_inside}
 use Rattle.entries.proofs.StepLemmas.{Exchanged, exchanged_leads, old_kept}
-use Rattle.entries.proofs.KeyOfDocument.{test_among, among_test, among_without, without_among, same_keys, among_middle, among_around, among_there}
+use Rattle.entry_model.proofs.KeyOfDocument.{test_among, among_test, among_without, without_among, same_keys, among_middle, among_around, among_there}
 
 -- an entry of a key of the one document alone, or of both
 record IsOwn (n : ℕ) (all : List Definition) (d other : Pairs) (x : Entry) : Type 0 where

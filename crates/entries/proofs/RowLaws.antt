@@ -7,14 +7,14 @@ use Rattle.std.specs.Ordering.{nat_cmp}
 use Rattle.std.specs.Cmp.Lexicographic.{slice_cmp}
 use Rattle.std.specs.declared.cmp.Ordering.TheVariants.{Less}
 use Rattle.value_order.specs.Order.{compare}
-use Rattle.entries.specs.State.{key_of}
+use Rattle.entry_model.specs.State.{key_of}
 use Rattle.std.proofs.lemmas.Int.{ints}
 use Rattle.bson.specs.Lawful.{IsDocument}
 use Rattle.bson.specs.Spelling.{tree_bytes, pairs_bytes, items_bytes, frame_of}
 use Rattle.index.specs.Definition.{IsDefinition}
 use Rattle.index.specs.IndexKeys.{is_multikey}
 use Rattle.index.specs.KeyTexts.{encoded_keys, keys_in}
-use Rattle.entries.specs.LawfulState.{IsStorable, ShareNoKey, IsIndexOf, IsKept}
+use Rattle.entry_model.specs.LawfulState.{IsStorable, ShareNoKey, IsIndexOf, IsKept}
 use Rattle.entries.specs.StateRows.{FirstState, FirstIsLawful, seven, index_on_a, one_collection}
 use Rattle.index.proofs.CatalogueLemmas.{differ}
 use Rattle.entries.proofs.CatalogueEntries.{plain_name}

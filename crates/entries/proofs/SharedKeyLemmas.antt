@@ -4,7 +4,7 @@ use Rattle.std.specs.List.{list_any}
 use Rattle.std.specs.Ordering.{is_eq}
 use Rattle.value_order.specs.Order.{bytes_cmp}
 use Rattle.index.specs.Changes.{is_among}
-use Rattle.entries.proofs.MemberLemmas.{Among}
+use Rattle.entry_model.proofs.MemberLemmas.{Among}
 use Rattle.index.proofs.SetLemmas.{same_itself}
 
 -- ---- tests of pairs

@@ -1,12 +1,12 @@
 -- A lawful state is spelled by one map.
 use Rattle.std.proofs.Common.{◌≡◌, ℕ, List, [], Option, Some, None, inl, refl, sym, ◌∙◌}
 use Rattle.tree_model.specs.Keys.{Entry, Rises, change, value_at}
-use Rattle.entries.specs.State.{Collection}
-use Rattle.entries.specs.StateEntries.{Spells, entry_keys, state_entries, puts}
-use Rattle.entries.specs.LawfulState.{IsLawfulState}
-use Rattle.entries.specs.StateLaws.{SpelledOnce}
+use Rattle.entry_model.specs.State.{Collection}
+use Rattle.entry_model.specs.StateEntries.{Spells, entry_keys, state_entries, puts}
+use Rattle.entry_model.specs.LawfulState.{IsLawfulState}
+use Rattle.entry_model.specs.StateLaws.{SpelledOnce}
 use Rattle.entries.proofs.EditLemmas.{one_map}
-use Rattle.entries.proofs.MemberLemmas.{Among, among_of, contains_of}
+use Rattle.entry_model.proofs.MemberLemmas.{Among, among_of, contains_of}
 use Rattle.entries.proofs.ExchangeLaws.{value_entry, entry_value, exchange_leads}
 use Rattle.entries.proofs.HomeLemmas.{is_map}
 

@@ -12,16 +12,16 @@ use Rattle.bson.specs.Tree.{Pairs}
 use Rattle.value_order.specs.KeyText.{tree_text}
 use Rattle.tree_model.specs.Keys.{removal}
 use Rattle.tree_model.specs.Keys.{Edit}
-use Rattle.entries.specs.Documents.{AddsCollection, RemovesCollection}
+use Rattle.entry_model.specs.Documents.{AddsCollection, RemovesCollection}
 use Rattle.entries.specs.EditList.{LeadsWith}
-use Rattle.entries.specs.LawfulState.{IsKept, IsLawfulState, AreNamedApart}
-use Rattle.entries.specs.State.{Collection, by_order, words, empty_collection, find_collection, uses, put_collection, without_collection}
-use Rattle.entries.specs.StateEntries.{key_under, catalogue_entry, document_entries, collection_entries, put_of, removal_of}
-use Rattle.entries.specs.StateEntries.{removals, Leads}
+use Rattle.entry_model.specs.LawfulState.{IsKept, IsLawfulState, AreNamedApart}
+use Rattle.entry_model.specs.State.{Collection, by_order, words, empty_collection, find_collection, uses, put_collection, without_collection}
+use Rattle.entry_model.specs.StateEntries.{key_under, catalogue_entry, document_entries, collection_entries, put_of, removal_of}
+use Rattle.entry_model.specs.StateEntries.{removals, Leads}
 use Rattle.entries.proofs.CollectionSteps.{makes_collection, drops_collection}
-use Rattle.entries.proofs.LawfulLaws.{makes_lawful, drops_lawful}
-use Rattle.entries.proofs.MemberLemmas.{first_of}
-use Rattle.entries.proofs.PlaceLemmas.{same_name, name_itself, apart_rest, found_in, found_name}
+use Rattle.entry_model.proofs.LawfulLaws.{makes_lawful, drops_lawful}
+use Rattle.entry_model.proofs.MemberLemmas.{first_of}
+use Rattle.entry_model.proofs.PlaceLemmas.{same_name, name_itself, apart_rest, found_in, found_name}
 
 -- a collection in its own place changes nothing
 pub put_same : (c : Collection) (cs : List Collection) → AreNamedApart cs → find_collection cs c.name ≡ Some c → put_collection c cs ≡ cs

@@ -1,16 +1,17 @@
 -- A collection in place of another of its name, by the entries of the two.
 use Rattle.std.proofs.Common.{◌≡◌, ℕ, List, [], ◌++◌, ◌⊎◌, inl, inr, refl, sym, ap, subst, append-nil}
 use Rattle.tree_model.specs.Keys.{Entry, Edit}
-use Rattle.entries.specs.State.{Collection, put_collection, without_collection}
-use Rattle.entries.specs.StateEntries.{collection_entries, state_entries, removals, puts, Leads}
-use Rattle.entries.specs.LawfulState.{IsKept}
-use Rattle.entries.specs.StateLaws.{MayBecome}
-use Rattle.entries.proofs.MemberLemmas.{Among, among_flat, among_each}
+use Rattle.entry_model.specs.State.{Collection, put_collection, without_collection}
+use Rattle.entry_model.specs.StateEntries.{collection_entries, state_entries, removals, puts, Leads}
+use Rattle.entry_model.specs.LawfulState.{IsKept}
+use Rattle.entry_model.specs.StateLaws.{MayBecome}
+use Rattle.entry_model.proofs.MemberLemmas.{Among, among_flat, among_each}
 use Rattle.entries.proofs.ExchangeLaws.{HasKey, exchange_leads}
-use Rattle.entries.proofs.PlaceLemmas.{found_in, found_split, without_in, without_other, put_among, among_put}
+use Rattle.entry_model.proofs.PlaceLemmas.{found_in, found_split, without_in, without_other, put_among, among_put}
 use Rattle.entries.proofs.EntryLemmas.{one_of}
-use Rattle.entries.proofs.LawfulLaws.{stays_lawful}
-use Rattle.entries.proofs.HomeLemmas.{kept_of, one_home, is_map}
+use Rattle.entry_model.proofs.LawfulLaws.{stays_lawful}
+use Rattle.entries.proofs.HomeLemmas.{one_home, is_map}
+use Rattle.entry_model.proofs.LawfulParts.{kept_of}
 
 -- what an exchange asks of the entries of the one collection and of the other
 pub record Exchanged (gone new old now : List Entry) : Type 0 where

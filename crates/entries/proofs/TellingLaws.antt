@@ -8,16 +8,17 @@ use Rattle.tree_model.specs.Keys.{Entry}
 use Rattle.index.specs.Definition.{Definition}
 use Rattle.index.specs.KeyTexts.{key_bytes, encoded_keys}
 use Rattle.index.specs.Laws.{IsIndexKey}
-use Rattle.entries.specs.State.{Collection, key_of}
-use Rattle.entries.specs.StateEntries.{key_under}
-use Rattle.entries.specs.LawfulState.{IsKept}
-use Rattle.entries.specs.StateReads.{TellsDocument}
-use Rattle.entries.proofs.MemberLemmas.{Among, among_of, contains_of}
+use Rattle.entry_model.specs.State.{Collection, key_of}
+use Rattle.entry_model.specs.StateEntries.{key_under}
+use Rattle.entry_model.specs.LawfulState.{IsKept}
+use Rattle.entry_model.specs.StateReads.{TellsDocument}
+use Rattle.entry_model.proofs.MemberLemmas.{Among, among_of, contains_of}
 use Rattle.index.proofs.OrderLaws.{keys_agree}
-use Rattle.entries.proofs.PlaceLemmas.{found_in}
+use Rattle.entry_model.proofs.PlaceLemmas.{found_in}
 use Rattle.entries.proofs.EntryLemmas.{IsOneOf, IsKeyOf, same_first, same_second, same_rest}
-use Rattle.entries.proofs.HomeLemmas.{Home, kept_of, storable_of, listed_of, number_fits, one_number, one_index}
-use Rattle.entries.proofs.KeyOfDocument.{encoded_of, same_back}
+use Rattle.entries.proofs.HomeLemmas.{Home, number_fits, one_number, one_index}
+use Rattle.entry_model.proofs.LawfulParts.{kept_of, storable_of, listed_of}
+use Rattle.entry_model.proofs.KeyOfDocument.{encoded_of, same_back}
 use Rattle.entries.proofs.ReadLaws.{there_of, IsUnderBoth, catalogue_under, document_under, key_under_of}
 
 -- a document that has the key, and the text of whose `_id` is the rest

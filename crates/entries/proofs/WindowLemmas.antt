@@ -12,8 +12,8 @@ use Rattle.std.proofs.Math.Nat.{mod-eq_of_lt}
 use Rattle.std.proofs.lemmas.Bool.{cases_lt}
 use Rattle.key_order.proofs.NumberLaws.{SortsAs-bytes}
 use Rattle.tree_model.specs.Keys.{Entry, Each, IsUnder, Rises, key_cmp, keep_if, window, is_within}
-use Rattle.entries.specs.StateEntries.{key_under, entry_keys}
-use Rattle.entries.proofs.MemberLemmas.{Among}
+use Rattle.entry_model.specs.StateEntries.{key_under, entry_keys}
+use Rattle.entry_model.proofs.MemberLemmas.{Among}
 
 -- ---- the order of keys under numbers
 

@@ -3,10 +3,10 @@ use Rattle.std.specs.Prelude.{◌≡◌, ℕ, not, List, [], ◌∷◌, ◌++◌
 use Rattle.std.specs.Ordering.{is_lt}
 use Rattle.bson.specs.Tree.{Pairs}
 use Rattle.tree_model.specs.Keys.{Entry, IsNotUnder, keep_if, key_cmp, window}
-use Rattle.entries.specs.State.{Collection, find_collection}
-use Rattle.entries.specs.StateEntries.{key_under, document_entry}
-use Rattle.entries.specs.StateReads.{SpellsLawful}
-use Rattle.entries.specs.LawfulState.{IsStorable, IsRising}
+use Rattle.entry_model.specs.State.{Collection, find_collection}
+use Rattle.entry_model.specs.StateEntries.{key_under, document_entry}
+use Rattle.entry_model.specs.StateReads.{SpellsLawful}
+use Rattle.entry_model.specs.LawfulState.{IsStorable, IsRising}
 
 -- the documents whose entries are not below a key
 abbrev pub documents_at : ℕ → List ℕ → List Pairs → List Pairs

@@ -6,8 +6,8 @@ use Rattle.std.specs.Option.{option_map, ForSome}
 use Rattle.std.specs.Global.{Vec}
 use Rattle.tree_model.specs.Keys.{edit_keys}
 use Rattle.tree_model.specs.Keys.{Each, Edit, Entry, Rises, change, key_cmp, value_at}
-use Rattle.entries.specs.State.{Collection, by_order}
-use Rattle.entries.specs.StateEntries.{Leads}
+use Rattle.entry_model.specs.State.{Collection, by_order}
+use Rattle.entry_model.specs.StateEntries.{Leads}
 
 -- what a vector of bytes puts at a key, or none where the key is removed
 abbrev pub edit_of : Vec ℕ → Option (Vec ℕ) → Edit

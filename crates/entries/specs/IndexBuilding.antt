@@ -5,9 +5,9 @@ use Rattle.bson.specs.Tree.{Pairs}
 use Rattle.tree_model.specs.Keys.{Edit}
 use Rattle.index.specs.Definition.{Definition}
 use Rattle.entries.specs.Indexed.{GoesOnBy, catalogue_put}
-use Rattle.entries.specs.State.{Collection, put_collection}
-use Rattle.entries.specs.StateEntries.{index_entries, puts, removals, Leads}
-use Rattle.entries.specs.StateLaws.{MayBecome}
+use Rattle.entry_model.specs.State.{Collection, put_collection}
+use Rattle.entry_model.specs.StateEntries.{index_entries, puts, removals, Leads}
+use Rattle.entry_model.specs.StateLaws.{MayBecome}
 
 -- Edits that go on by some and then by others go on by all of them.
 abbrev pub GoOnFurther : Type 0

@@ -1,35 +1,18 @@
--- An index that is made of the documents which its collection has already, and one that is dropped
--- (MongoDB manual, "createIndexes" and "dropIndexes").
-use Rattle.std.specs.Prelude.{◌≡◌, ◌≢◌, true, ℕ, List, [], ◌∷◌, ◌++◌, get_or, map, Result, Ok, Err}
+-- The entries of an index that is made of the documents which its collection has already, and of
+-- one that is dropped.
+use Rattle.std.specs.Prelude.{◌≡◌, ◌≢◌, ℕ, List, [], ◌∷◌, ◌++◌, get_or, map, Ok, Err}
 use Rattle.std.specs.Prelude.{Some, All}
-use Rattle.std.specs.List.{remove}
 use Rattle.bson.specs.Tree.{Pairs}
 use Rattle.tree_model.specs.Keys.{Edit}
-use Rattle.outcome.specs.Outcome.{◌>>=◌}
 use Rattle.path.specs.declared.refusal.Refusal.{Refusal}
 use Rattle.index.specs.Definition.{Definition, IsDefinition}
-use Rattle.entries.specs.Entering.{AreIndexed, DocumentWrite, enter_each}
+use Rattle.entry_model.specs.Entering.{AreIndexed, enter_each}
 use Rattle.entries.specs.IndexBuilding.{HasPutEntries, HasRemovedEntries}
-use Rattle.entries.specs.LawfulState.{IsKept, IsLawfulState}
-use Rattle.entries.specs.State.{Collection, find_collection, put_collection}
-use Rattle.entries.specs.StateEntries.{Leads}
+use Rattle.entry_model.specs.LawfulState.{IsKept, IsLawfulState}
+use Rattle.entry_model.specs.State.{Collection, find_collection, put_collection}
+use Rattle.entry_model.specs.StateEntries.{Leads}
 use Rattle.entries.specs.declared.making.NewEntries.{NewEntries}
-
--- ---- what is made
-
--- the collection before its first document, with this index alone
-abbrev pub alone : Collection → Definition → Collection
-alone c i = record c { documents = []; indexes = i ∷ [] }
-
-abbrev pub as_new : Pairs → DocumentWrite
-as_new d = record { is_new = true; document = d }
-
--- The collection with an index more: each of its documents enters, in ascending order of `_id`,
--- where the index stands alone. The first refusal is that of the whole.
-abbrev pub with_index : Collection → Definition → Result Collection Refusal
-with_index c i = do
-  made ← enter_each (alone c i) (map as_new c.documents)
-  Ok (record c { indexes = c.indexes ++ made.indexes })
+use Rattle.entry_model.specs.WithIndex.{alone, as_new, with_index, without_index_at}
 
 -- ---- document after document
 
@@ -81,10 +64,6 @@ MakesIndexOf old new name number indexes n =
     × IsLawfulState (put_collection next b)
 
 -- ---- the collection without one
-
--- the collection without its index at a place
-abbrev pub without_index_at : Collection → ℕ → Collection
-without_index_at c at = record c { indexes = remove c.indexes at }
 
 -- Wherever some edits lead to a lawful state with a collection of this name, this number and these
 -- indexes, and the old ones have removals of all its documents' entries in the index at a place

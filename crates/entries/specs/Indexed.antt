@@ -12,11 +12,11 @@ use Rattle.entries.specs.EditList.{with_edit}
 use Rattle.entries.specs.declared.indexed_edits.EntryEdit.{EntryEdit}
 use Rattle.entries.specs.declared.indexed_edits.EntryEdit.TheVariants as kinds
 use Rattle.index.specs.KeyTexts.{entry_key}
-use Rattle.entries.specs.State.{Collection, key_of, put_collection}
-use Rattle.entries.specs.StateEntries.{catalogue_entry, document_entry, put_of, puts}
-use Rattle.entries.specs.StateEntries.{removal_of, removals}
-use Rattle.entries.specs.StateEntries.{entry_keys, Leads}
-use Rattle.entries.specs.StateLaws.{MayBecome, own_entries, AreAlike}
+use Rattle.entry_model.specs.State.{Collection, key_of, put_collection}
+use Rattle.entry_model.specs.StateEntries.{catalogue_entry, document_entry, put_of, puts}
+use Rattle.entry_model.specs.StateEntries.{removal_of, removals}
+use Rattle.entry_model.specs.StateEntries.{entry_keys, Leads}
+use Rattle.entry_model.specs.StateLaws.{MayBecome, own_entries, AreAlike}
 
 -- ---- edits one after the other
 

@@ -12,10 +12,10 @@ use Rattle.value_order.specs.Order.{compare}
 use Rattle.index.specs.Changes.{is_among}
 use Rattle.index.specs.Definition.{Definition, IsDefinition}
 use Rattle.index.specs.KeyTexts.{encoded_keys}
-use Rattle.entries.specs.LawfulState.{IsStorable}
-use Rattle.entries.specs.State.{Collection, key_of, find_collection}
-use Rattle.entries.specs.StateEntries.{index_entries, key_under, puts}
-use Rattle.entries.specs.StateReads.{SpellsLawful}
+use Rattle.entry_model.specs.LawfulState.{IsStorable}
+use Rattle.entry_model.specs.State.{Collection, key_of, find_collection}
+use Rattle.entry_model.specs.StateEntries.{index_entries, key_under, puts}
+use Rattle.entry_model.specs.StateReads.{SpellsLawful}
 
 -- The key goes on from this front, and not by this text.
 abbrev pub is_another : List ℕ → List ℕ → List ℕ → Bool

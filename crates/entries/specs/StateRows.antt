@@ -5,9 +5,9 @@ use Rattle.bson.specs.Tree.{Pairs, no_pairs, pair}
 use Rattle.tree_model.specs.Keys.{Entry}
 use Rattle.value_order.specs.declared.texts.Direction.TheVariants as directions
 use Rattle.index.specs.Definition.{Definition}
-use Rattle.entries.specs.State.{Collection, int}
-use Rattle.entries.specs.StateEntries.{state_entries}
-use Rattle.entries.specs.LawfulState.{IsLawfulState}
+use Rattle.entry_model.specs.State.{Collection, int}
+use Rattle.entry_model.specs.StateEntries.{state_entries}
+use Rattle.entry_model.specs.LawfulState.{IsLawfulState}
 
 abbrev pub index_on_a : Definition
 index_on_a = record {

@@ -6,15 +6,16 @@ ghost use Rattle.bson.specs.Spelling.{Spells, frame_of, pairs_bytes};
 ghost use Rattle.bson.specs.View.{items_of, tree};
 ghost use Rattle.entries.specs.CatalogueReading.{definitions_in, item_in};
 ghost use Rattle.index.specs.Definition.{Definition, IsDefinition};
-ghost use Rattle.entries.specs.LawfulState.{IsKept};
-ghost use Rattle.entries.specs.State.{Collection};
-ghost use Rattle.entries.specs.StateEntries.{catalogue_value};
-ghost use Rattle.entries.specs.StateReads.{catalogue_bytes};
+ghost use Rattle.entry_model.specs.LawfulState.{IsKept};
+ghost use Rattle.entry_model.specs.State.{Collection};
+ghost use Rattle.entry_model.specs.StateEntries.{catalogue_value};
+ghost use Rattle.entry_model.specs.StateReads.{catalogue_bytes};
 
 use crate::entry_reading::spelled_document;
 use crate::entry_values::plain_bytes;
 use crate::indexed_entries::indexed_bytes;
 use bson::{Document, NoMemory, Value};
+use entry_model::MOST_INDEXES;
 use index::IndexSpec;
 use std::alloc::Global;
 
@@ -73,9 +74,6 @@ fn indexes_told(alloc: Global, document: &Document) -> Result<Option<Vec<IndexSp
         _ => Ok(None),
     }
 }
-
-/// The most indexes of a collection, beside that on `_id`.
-pub const MOST_INDEXES: usize = 16;
 
 /// What the catalogue says of a collection: its number and its indexes.
 #[derive(Drop)]

@@ -3,11 +3,12 @@
 ghost use Rattle.std.specs.Prelude.{◌≡◌, ◌≢◌, ◌≤◌, Err, IfErr, IfOk, IfSome, OnOk, false, length, map, option_map};
 ghost use Rattle.std.specs.List.{list_any};
 ghost use Rattle.value_order.specs.KeyText.{tree_text};
-ghost use Rattle.entries.specs.Entering.{AreKeyed, Enters, NotesArrays, StayIndexed, becomes_multikey};
+ghost use Rattle.entry_model.specs.Entering.{Enters, NotesArrays, StayIndexed, becomes_multikey};
+ghost use Rattle.entries.specs.KeyedDocuments.{AreKeyed};
 ghost use Rattle.index.specs.IndexKeys.{noted};
 ghost use Rattle.index.specs.KeyTexts.{keys_in_all};
-ghost use Rattle.entries.specs.LawfulState.{IsStorable};
-ghost use Rattle.entries.specs.State.{key_of};
+ghost use Rattle.entry_model.specs.LawfulState.{IsStorable};
+ghost use Rattle.entry_model.specs.State.{key_of};
 
 use crate::catalogue_reading::Catalogued;
 use crate::edits::Edits;

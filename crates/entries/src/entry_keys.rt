@@ -2,8 +2,8 @@
 
 ghost use Rattle.std.specs.Prelude.{◌≡◌, [], IfOk};
 ghost use Rattle.value_order.specs.KeyText.{tree_text};
-ghost use Rattle.entries.specs.State.{words};
-ghost use Rattle.entries.specs.StateEntries.{key_under};
+ghost use Rattle.entry_model.specs.State.{words};
+ghost use Rattle.entry_model.specs.StateEntries.{key_under};
 
 use bson::{NoMemory, Text, Value};
 use std::alloc::Global;

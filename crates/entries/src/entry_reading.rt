@@ -5,9 +5,9 @@ ghost use Rattle.bson.specs.Spelling.{Spells, frame_of, pairs_bytes};
 ghost use Rattle.bson.specs.Tree.{Pairs};
 ghost use Rattle.value_order.specs.KeyText.{tree_text};
 ghost use Rattle.entries.specs.Escaping.{unescaped};
-ghost use Rattle.entries.specs.LawfulState.{IsStorable};
-ghost use Rattle.entries.specs.State.{words};
-ghost use Rattle.entries.specs.StateEntries.{key_under};
+ghost use Rattle.entry_model.specs.LawfulState.{IsStorable};
+ghost use Rattle.entry_model.specs.State.{words};
+ghost use Rattle.entry_model.specs.StateEntries.{key_under};
 
 use crate::entry_keys::catalogue_key;
 use bson::{Document, NoMemory};

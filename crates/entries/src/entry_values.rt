@@ -2,7 +2,7 @@
 
 ghost use Rattle.std.specs.Prelude.{◌≡◌, ◌≤◌, [], IfOk, length};
 ghost use Rattle.bson.specs.Spelling.{Spells, frame_of, pairs_bytes};
-ghost use Rattle.entries.specs.StateEntries.{catalogue_value};
+ghost use Rattle.entry_model.specs.StateEntries.{catalogue_value};
 
 use bson::{Document, EncodeFault, NoMemory, encode};
 use std::alloc::{AllocError, Global};

@@ -1,7 +1,7 @@
 //! Laws of what is found in a state, as contracts.
 
 ghost use Rattle.entries.specs.EditList.{PutWhatTheyHave};
-ghost use Rattle.entries.specs.FoundLaws.{FieldIsKey, FindsPut, FoundCollection, FoundDocument, PutTwice, ShortIsKey, StoredIsKey, WithoutPut};
+ghost use Rattle.entry_model.specs.FoundLaws.{FieldIsKey, FindsPut, FoundCollection, FoundDocument, PutTwice, ShortIsKey, StoredIsKey, WithoutPut};
 
 /// A collection that is found is within the limits.
 pub fn found_collection()

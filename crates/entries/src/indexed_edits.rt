@@ -5,9 +5,9 @@ ghost use Rattle.value_order.specs.KeyText.{tree_text};
 ghost use Rattle.entries.specs.EditList.{with_edit};
 ghost use Rattle.entries.specs.Indexed.{DeletesFrom, GoesOnBy, InsertsInto, NotesSome, edit_by, edits_by, entries_at, entries_in_all, entry_at, with_edits};
 ghost use Rattle.index.specs.KeyTexts.{keys_in, keys_in_all};
-ghost use Rattle.entries.specs.LawfulState.{IsStorable};
-ghost use Rattle.entries.specs.State.{key_of};
-ghost use Rattle.entries.specs.StateEntries.{document_entries, index_entries, puts, removals};
+ghost use Rattle.entry_model.specs.LawfulState.{IsStorable};
+ghost use Rattle.entry_model.specs.State.{key_of};
+ghost use Rattle.entry_model.specs.StateEntries.{document_entries, index_entries, puts, removals};
 ghost use Rattle.index.specs.View.{texts_of};
 
 use crate::edits::Edits;

@@ -7,7 +7,7 @@ ghost use Rattle.bson.specs.View.{items_of};
 ghost use Rattle.index.specs.Definition.{IsDefinition};
 ghost use Rattle.entries.specs.EditList.{with_edit};
 ghost use Rattle.entries.specs.Indexed.{GoesOnBy, NotesIndexesOf, catalogue_put};
-ghost use Rattle.entries.specs.StateEntries.{catalogue_value, definition_items};
+ghost use Rattle.entry_model.specs.StateEntries.{catalogue_value, definition_items};
 
 use crate::edits::Edits;
 use crate::entry_keys::catalogue_key;

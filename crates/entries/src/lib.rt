@@ -22,7 +22,7 @@ mod replacing_edits;
 mod state_edits;
 pub mod state_laws;
 
-pub use catalogue_reading::{Catalogued, MOST_INDEXES, catalogue_parts, catalogue_told};
+pub use catalogue_reading::{Catalogued, catalogue_parts, catalogue_told};
 pub use edits::Edits;
 pub use entering::{Keyed, stay_indexed};
 pub use entry_keys::{catalogue_key, document_key, first_key, index_key};

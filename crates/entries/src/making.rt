@@ -7,7 +7,7 @@ ghost use Rattle.index.specs.Definition.{IsDefinition};
 ghost use Rattle.entries.specs.IndexMaking.{Begins, DropsIndexAt, MakesIndexOf, RefusesNext, TakesNext};
 ghost use Rattle.entries.specs.Indexed.{GoesOnBy};
 ghost use Rattle.entries.specs.OtherKeys.{puts_any};
-ghost use Rattle.entries.specs.State.{key_of};
+ghost use Rattle.entry_model.specs.State.{key_of};
 ghost use Rattle.index.specs.View.{texts_of};
 
 use crate::catalogue_reading::Catalogued;

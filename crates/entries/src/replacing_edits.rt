@@ -7,9 +7,9 @@ ghost use Rattle.value_order.specs.Order.{compare};
 ghost use Rattle.index.specs.Changes.{IsAscending};
 ghost use Rattle.entries.specs.Indexed.{NotesSome, ReplacesIn, edits_by, entries_at, entries_in_all, replacing_in, with_edits, without_all};
 ghost use Rattle.index.specs.KeyTexts.{keys_in_all};
-ghost use Rattle.entries.specs.LawfulState.{IsStorable};
-ghost use Rattle.entries.specs.State.{key_of};
-ghost use Rattle.entries.specs.StateEntries.{puts, removals};
+ghost use Rattle.entry_model.specs.LawfulState.{IsStorable};
+ghost use Rattle.entry_model.specs.State.{key_of};
+ghost use Rattle.entry_model.specs.StateEntries.{puts, removals};
 ghost use Rattle.index.specs.View.{texts_of};
 
 use crate::edits::Edits;

@@ -3,11 +3,11 @@
 ghost use Rattle.std.specs.Prelude.{◌≡◌, ◌≤◌, OnErr, OnOk, length};
 ghost use Rattle.value_order.specs.KeyText.{tree_text};
 ghost use Rattle.tree_model.specs.Keys.{removal};
-ghost use Rattle.entries.specs.Documents.{AddsCollection, RemovesCollection};
+ghost use Rattle.entry_model.specs.Documents.{AddsCollection, RemovesCollection};
 ghost use Rattle.entries.specs.EditList.{with_edit};
-ghost use Rattle.entries.specs.LawfulState.{IsStorable};
-ghost use Rattle.entries.specs.State.{empty_collection, key_of, words};
-ghost use Rattle.entries.specs.StateEntries.{catalogue_entry, document_entry, key_under, put_of};
+ghost use Rattle.entry_model.specs.LawfulState.{IsStorable};
+ghost use Rattle.entry_model.specs.State.{empty_collection, key_of, words};
+ghost use Rattle.entry_model.specs.StateEntries.{catalogue_entry, document_entry, key_under, put_of};
 
 use crate::edits::Edits;
 use crate::entry_keys::{catalogue_key, document_key};

@@ -1,9 +1,9 @@
 //! Laws of the entries that a state is kept as, and of the edits that lead from one state to the next, as contracts.
 
-ghost use Rattle.entries.specs.KeptLaws.{KeptWithDocument, KeptWithoutDocument, KeptWithIndex, KeptWithoutIndex, KeptNoted};
-ghost use Rattle.entries.specs.StateReads.{FindsCollection, FindsDocument, ListsCollections, ListsDocuments, ListsIndex, TellsDocument};
+ghost use Rattle.entry_model.specs.KeptLaws.{KeptWithDocument, KeptWithoutDocument, KeptWithIndex, KeptWithoutIndex, KeptNoted};
+ghost use Rattle.entry_model.specs.StateReads.{FindsCollection, FindsDocument, ListsCollections, ListsDocuments, ListsIndex, TellsDocument};
 ghost use Rattle.entries.specs.StateRows.{FirstIsLawful, FirstState};
-ghost use Rattle.entries.specs.StateLaws.{SpelledOnce, SpellsOne, EntriesFit, LeadsOn, OrderIsFree, EditsSwap, MakesCollection, MakesLawful, DropsCollection, DropsLawful, StaysLawful, InsertsDocument, DeletesDocument, ReplacesDocument, MakesIndex, DropsIndex, NotesIndexes};
+ghost use Rattle.entry_model.specs.StateLaws.{SpelledOnce, SpellsOne, EntriesFit, LeadsOn, OrderIsFree, EditsSwap, MakesCollection, MakesLawful, DropsCollection, DropsLawful, StaysLawful, InsertsDocument, DeletesDocument, ReplacesDocument, MakesIndex, DropsIndex, NotesIndexes};
 ghost use Rattle.entries.specs.OtherKeys.{TellsOtherKey, TellsOtherPut};
 
 /// The entries of a state, byte by byte.

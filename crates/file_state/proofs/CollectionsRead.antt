@@ -6,15 +6,15 @@ use Rattle.bson.specs.Tree.{Pairs}
 use Rattle.bson_bytes.proofs.RawLaws.{document_spelled-is}
 use Rattle.tree_model.specs.Keys.{Entry}
 use Rattle.index.specs.Definition.{Definition}
-use Rattle.entries.specs.LawfulState.{AreNamedApart, IsStorable}
-use Rattle.entries.specs.State.{Collection, find_collection}
-use Rattle.entries.specs.StateEntries.{catalogue_entry, catalogue_value, document_entry}
-use Rattle.entries.specs.StateReads.{SpellsLawful}
+use Rattle.entry_model.specs.LawfulState.{AreNamedApart, IsStorable}
+use Rattle.entry_model.specs.State.{Collection, find_collection}
+use Rattle.entry_model.specs.StateEntries.{catalogue_entry, catalogue_value, document_entry}
+use Rattle.entry_model.specs.StateReads.{SpellsLawful}
 use Rattle.entries.proofs.CatalogueReadLaws.{all_back, kept_lawful, kept_spells}
-use Rattle.entries.proofs.HomeLemmas.{kept_of, storable_of}
+use Rattle.entry_model.proofs.LawfulParts.{kept_of, storable_of}
 use Rattle.entries.proofs.ListingLaws.{lists_collections, lists_documents}
-use Rattle.entries.proofs.MemberLemmas.{Among}
-use Rattle.entries.proofs.PlaceLemmas.{found_split, none_without, without_other}
+use Rattle.entry_model.proofs.MemberLemmas.{Among}
+use Rattle.entry_model.proofs.PlaceLemmas.{found_split, none_without, without_other}
 use Rattle.entries.proofs.ReadingLemmas.{name_behind, storable_spells}
 use Rattle.file_state.specs.Collections.{collection_told, collections_among, collections_in, documents_told, indexes_of, name_told, number_of}
 use Rattle.file_state.specs.Laws.{ReadsCollections, ReadsHeld}

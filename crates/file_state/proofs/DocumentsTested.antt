@@ -15,8 +15,8 @@ use Rattle.bson.specs.Tree.{Tree, scalar, document, array, Pairs, no_pairs, pair
 use Rattle.path.specs.Parts.{has_zero}
 use Rattle.path.proofs.NameLemmas.{no_zero}
 use Rattle.value_order.specs.KeyText.{tree_text}
-use Rattle.entries.specs.LawfulState.{IsStorable}
-use Rattle.entries.specs.State.{key_of}
+use Rattle.entry_model.specs.LawfulState.{IsStorable}
+use Rattle.entry_model.specs.State.{key_of}
 use Rattle.file_state.specs.DocumentTests.{are_bytes, fits_signed, is_document, is_items, is_name, is_pairs, is_scalar, is_storable, is_tree}
 use Rattle.file_state.proofs.TestLemmas.{◌also◌, false_tested, le_tested, unequal_tested, utf8_tested}
 

@@ -1,8 +1,8 @@
 -- What is held is lawful on any image, and is what an image that holds collections holds.
 use Rattle.std.proofs.Common.{◌≡◌, Bool, true, false, List, [], replicate, refl, ◌∙◌, ap}
 use Rattle.std.specs.Prelude.{if◌then◌else◌}
-use Rattle.entries.specs.LawfulState.{IsLawfulState}
-use Rattle.entries.specs.State.{Collection}
+use Rattle.entry_model.specs.LawfulState.{IsLawfulState}
+use Rattle.entry_model.specs.State.{Collection}
 use Rattle.collections.proofs.LawLemmas.{zeros_hold_nothing}
 use Rattle.file_state.specs.Collections.{collections_in, held_in}
 use Rattle.file_state.specs.Laws.{GivesHeld, HeldIsLawful}

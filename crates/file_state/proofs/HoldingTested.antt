@@ -6,11 +6,11 @@ use Rattle.std.proofs.lemmas.Bool.Decides.{Decides-like, Decides-or}
 use Rattle.std.proofs.lemmas.Slice.Eq.{bytes_eq-Decides}
 use Rattle.tree_model.specs.Keys.{Entry}
 use Rattle.roots.specs.Image.{StandsFor}
-use Rattle.entries.specs.LawfulState.{IsLawfulState}
-use Rattle.entries.specs.State.{Collection}
-use Rattle.entries.specs.StateEntries.{Spells, entry_keys, state_entries}
-use Rattle.entries.proofs.LawfulLaws.{all_of}
-use Rattle.entries.proofs.MemberLemmas.{Among, among_of, contains_of, of_all}
+use Rattle.entry_model.specs.LawfulState.{IsLawfulState}
+use Rattle.entry_model.specs.State.{Collection}
+use Rattle.entry_model.specs.StateEntries.{Spells, entry_keys, state_entries}
+use Rattle.entry_model.proofs.LawfulLaws.{all_of}
+use Rattle.entry_model.proofs.MemberLemmas.{Among, among_of, contains_of, of_all}
 use Rattle.collections.specs.Holding.{HoldsState}
 use Rattle.file_state.specs.Collections.{collections_in}
 use Rattle.file_state.specs.Entries.{entries_in}

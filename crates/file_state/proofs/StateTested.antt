@@ -15,14 +15,14 @@ use Rattle.path.specs.declared.refusal.Refusal.TheVariants as refusals
 use Rattle.value_order.specs.Order.{compare}
 use Rattle.index.specs.Changes.{is_among}
 use Rattle.index.specs.Definition.{AreFields, Definition, Field, IsDefinition, IsPath, key_document}
-use Rattle.entries.specs.Entering.{share_key}
+use Rattle.entry_model.specs.Entering.{share_key}
 use Rattle.index.specs.IndexKeys.{has_parallel_arrays, is_multikey}
 use Rattle.index.specs.KeyTexts.{encoded_keys, is_too_long, keys_in}
-use Rattle.entries.specs.LawfulState.{AreNamedApart, AreNumberedApart, IsIndexOf, IsKept, IsRising, IsStorable, ShareNoKey}
-use Rattle.entries.specs.State.{Collection, key_of, uses}
-use Rattle.entries.proofs.EnteringLemmas.{not_any, stands_among}
-use Rattle.entries.proofs.KeyOfDocument.{among_test}
-use Rattle.entries.proofs.LawfulLaws.{all_of}
+use Rattle.entry_model.specs.LawfulState.{AreNamedApart, AreNumberedApart, IsIndexOf, IsKept, IsRising, IsStorable, ShareNoKey}
+use Rattle.entry_model.specs.State.{Collection, key_of, uses}
+use Rattle.entry_model.proofs.EnteringLemmas.{not_any, stands_among}
+use Rattle.entry_model.proofs.KeyOfDocument.{among_test}
+use Rattle.entry_model.proofs.LawfulLaws.{all_of}
 use Rattle.file_state.specs.DocumentTests.{is_storable}
 use Rattle.file_state.specs.Laws.{TestsLawful}
 use Rattle.file_state.specs.StateTests.{are_fields, are_named_apart, are_numbered_apart, is_definition, is_index_of, is_kept, is_lawful, is_rising}

@@ -10,9 +10,9 @@ use Rattle.bson.specs.Lookup.{lookup}
 use Rattle.bson.specs.Tree.{Tree, scalar, null, document, array, Pairs, no_pairs, pair}
 use Rattle.update_model.specs.Stored.{first_pair, id_first, id_name, no_array, pairs_fault, without}
 use Rattle.update_model.proofs.IdLemmas.{without-absent}
-use Rattle.entries.specs.LawfulState.{IsLawfulState}
-use Rattle.entries.specs.State.{Collection}
-use Rattle.entries.proofs.HomeLemmas.{kept_of, storable_of}
+use Rattle.entry_model.specs.LawfulState.{IsLawfulState}
+use Rattle.entry_model.specs.State.{Collection}
+use Rattle.entry_model.proofs.LawfulParts.{kept_of, storable_of}
 use Rattle.database_model.specs.Documents.{key_of}
 use Rattle.database_model.specs.Lawful.{IsStored}
 use Rattle.file_state.specs.Collections.{held_in}

@@ -10,8 +10,8 @@ use Rattle.std.proofs.lemmas.Bool.{le-leb, leb-true}
 use Rattle.std.proofs.lemmas.Bool.Decides.{Decides-and, Decides-by_and, Decides-eqb, Decides-like, Decides-not}
 use Rattle.std.proofs.lemmas.List.Kept.{AllPairs-cons}
 use Rattle.std.proofs.lemmas.Str.{IsUtf8-from_is_utf8, is_utf8-from_IsUtf8}
-use Rattle.entries.proofs.LawfulLaws.{all_of}
-use Rattle.entries.proofs.MemberLemmas.{Among, of_all}
+use Rattle.entry_model.proofs.LawfulLaws.{all_of}
+use Rattle.entry_model.proofs.MemberLemmas.{Among, of_all}
 use Rattle.file_state.specs.StateTests.{all_pairs, implies}
 
 infixl 35 ◌also◌

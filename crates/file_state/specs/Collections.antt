@@ -10,8 +10,8 @@ use Rattle.tree_model.specs.Keys.{Entry}
 use Rattle.entries.specs.CatalogueReading.{definitions_in}
 use Rattle.index.specs.Definition.{Definition}
 use Rattle.entries.specs.Escaping.{unescaped}
-use Rattle.entries.specs.State.{Collection}
-use Rattle.entries.specs.StateReads.{entries_under}
+use Rattle.entry_model.specs.State.{Collection}
+use Rattle.entry_model.specs.StateReads.{entries_under}
 use Rattle.file_state.specs.Entries.{entries_in}
 use Rattle.file_state.specs.StateTests.{is_lawful}
 

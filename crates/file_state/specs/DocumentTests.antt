@@ -13,7 +13,7 @@ use Rattle.bson.specs.Tree.{int64, Tree, scalar, document, array, Pairs, no_pair
 use Rattle.bson.specs.Tree.{pair, Items, no_items, item}
 use Rattle.path.specs.Parts.{has_zero}
 use Rattle.value_order.specs.KeyText.{tree_text}
-use Rattle.entries.specs.State.{key_of}
+use Rattle.entry_model.specs.State.{key_of}
 
 -- ---- values
 

@@ -3,8 +3,8 @@ use Rattle.std.specs.Prelude.{ℕ, Bool, ◌&&◌, List}
 use Rattle.std.specs.List.{list_all, list_any}
 use Rattle.std.specs.Str.{bytes_eq}
 use Rattle.tree_model.specs.Keys.{Entry}
-use Rattle.entries.specs.State.{Collection}
-use Rattle.entries.specs.StateEntries.{entry_keys, state_entries}
+use Rattle.entry_model.specs.State.{Collection}
+use Rattle.entry_model.specs.StateEntries.{entry_keys, state_entries}
 use Rattle.file_state.specs.Collections.{collections_in}
 use Rattle.file_state.specs.Entries.{entries_in}
 use Rattle.file_state.specs.FileTests.{stands}

@@ -3,9 +3,9 @@ use Rattle.std.specs.Prelude.{◌≡◌, ℕ, true, List, All, Decides}
 use Rattle.bson.specs.Tree.{Pairs}
 use Rattle.tree_model.specs.Keys.{Entry}
 use Rattle.roots.specs.Image.{StandsFor}
-use Rattle.entries.specs.LawfulState.{IsLawfulState, IsStorable}
-use Rattle.entries.specs.State.{Collection}
-use Rattle.entries.specs.StateEntries.{Spells}
+use Rattle.entry_model.specs.LawfulState.{IsLawfulState, IsStorable}
+use Rattle.entry_model.specs.State.{Collection}
+use Rattle.entry_model.specs.StateEntries.{Spells}
 use Rattle.collections.specs.Holding.{HoldsState}
 use Rattle.file_state.specs.Collections.{collections_among, collections_in, held_in}
 use Rattle.file_state.specs.Entries.{entries_in}

@@ -11,10 +11,10 @@ use Rattle.bson.specs.Tree.{Pairs}
 use Rattle.path.specs.Parts.{path_of}
 use Rattle.value_order.specs.Order.{compare}
 use Rattle.index.specs.Definition.{Field, Definition, key_document}
-use Rattle.entries.specs.Entering.{share_key}
+use Rattle.entry_model.specs.Entering.{share_key}
 use Rattle.index.specs.IndexKeys.{is_multikey}
 use Rattle.index.specs.KeyTexts.{keys_in}
-use Rattle.entries.specs.State.{Collection, key_of, uses}
+use Rattle.entry_model.specs.State.{Collection, key_of, uses}
 use Rattle.file_state.specs.DocumentTests.{is_pairs, is_storable}
 
 -- each element and each behind it pass

@@ -5,7 +5,7 @@ use Rattle.std.specs.List.{list_all}
 use Rattle.std.specs.Str.{bytes_eq}
 use Rattle.bson.specs.Tree.{Pairs, no_pairs, pair}
 use Rattle.update_model.specs.Stored.{id_name, id_of, pairs_fault}
-use Rattle.entries.specs.State.{Collection}
+use Rattle.entry_model.specs.State.{Collection}
 use Rattle.file_state.specs.Collections.{held_in}
 
 -- the first pair has this name

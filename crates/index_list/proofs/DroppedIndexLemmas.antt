@@ -12,8 +12,8 @@ use Rattle.outcome.specs.Outcome.{◌>>=◌}
 use Rattle.path.specs.declared.refusal.Refusal.{Refusal}
 use Rattle.command_model.specs.DropIndexes.{DroppedIndexes, all}
 use Rattle.index.specs.Definition.{Definition}
-use Rattle.entries.specs.State.{Collection, find_collection, put_collection}
-use Rattle.entries.proofs.IndexMakingLaws.{cut_at}
+use Rattle.entry_model.specs.State.{Collection, find_collection, put_collection}
+use Rattle.entry_model.proofs.KeptSteps.{cut_at}
 use Rattle.database_model.specs.DropIndexes.{dropped_in, index_dropped, is_dropped, left_by, remaining}
 
 -- ---- the first that passes a test

@@ -12,14 +12,14 @@ use Rattle.path.specs.declared.refusal.Refusal.TheVariants as refusals
 use Rattle.command_model.specs.NewIndex.{IsShortNewIndex, NewIndex, defined}
 use Rattle.command_model.specs.OutcomeLaws.{step_of}
 use Rattle.index.specs.Definition.{Definition, Field}
-use Rattle.entries.specs.Entering.{DocumentWrite, enter_each, entered}
-use Rattle.entries.specs.IndexMaking.{alone, as_new, with_index}
+use Rattle.entry_model.specs.Entering.{DocumentWrite, enter_each, entered}
+use Rattle.entry_model.specs.WithIndex.{alone, as_new, with_index}
 use Rattle.index.specs.IndexKeys.{noted}
-use Rattle.entries.specs.State.{Collection, empty_collection, uses}
-use Rattle.entries.proofs.EnteringLemmas.{has_entered}
-use Rattle.entries.proofs.KeptSteps.{long_map}
-use Rattle.entries.proofs.LawfulLaws.{all_of}
-use Rattle.entries.proofs.MemberLemmas.{Among}
+use Rattle.entry_model.specs.State.{Collection, empty_collection, uses}
+use Rattle.entry_model.proofs.EnteringLemmas.{has_entered}
+use Rattle.entry_model.proofs.KeptSteps.{long_map}
+use Rattle.entry_model.proofs.LawfulLaws.{all_of}
+use Rattle.entry_model.proofs.MemberLemmas.{Among}
 use Rattle.database_model.specs.CreateIndexes.{are_same_fields, is_in_conflict, is_same_field, is_there, numbered, unused_index, with_new_index}
 use Rattle.database_model.specs.CreateIndexes.{with_new_indexes}
 use Rattle.database_model.specs.Lawful.{AreShortIndexes, IsShortIndex}

@@ -7,7 +7,7 @@ use Rattle.op_msg.specs.Request.{body_of}
 use Rattle.command_model.specs.Command.{command_of, update}
 use Rattle.command_model.specs.Update.{Update}
 use Rattle.database_model.specs.Update.{not_updated, run_all, run_statements}
-use Rattle.entries.specs.State.{Collection}
+use Rattle.entry_model.specs.State.{Collection}
 
 -- Whatever update a message asks for that stands at the front of bytes, and whatever collections
 -- there are: no reply is refused for its length. So an update gives what its statements come to, or

@@ -14,24 +14,25 @@ use Rattle.tree_model.specs.Keys.{Entry, IsUnder, value_at}
 use Rattle.tree_model.proofs.KeyLemmas.{not_under_itself}
 use Rattle.index.specs.Changes.{is_among}
 use Rattle.index.specs.Definition.{Definition}
-use Rattle.entries.specs.Documents.{put_document, with_documents}
-use Rattle.entries.specs.Entering.{clashes, is_other, share_key}
+use Rattle.entry_model.specs.Documents.{put_document, with_documents}
+use Rattle.entry_model.specs.Entering.{clashes, is_other, share_key}
 use Rattle.index.specs.KeyTexts.{encoded_keys, entry_key, key_bytes}
 use Rattle.index.specs.IndexKeys.{index_keys}
-use Rattle.entries.specs.LawfulState.{IsKept as IsIndexKept, IsStorable}
+use Rattle.entry_model.specs.LawfulState.{IsKept as IsIndexKept, IsStorable}
 use Rattle.entries.specs.OtherKeys.{has_other_key, is_another}
-use Rattle.entries.specs.State.{Collection, find_collection, key_of}
-use Rattle.entries.specs.StateEntries.{catalogue_entry, document_entry, index_entries, index_entry, key_under}
-use Rattle.entries.proofs.DocumentPlaces.{IsBetween, placed}
-use Rattle.entries.proofs.EntryLemmas.{IsDocumentOf, IsKeyOf, same_first, same_rest, same_second, same_text}
+use Rattle.entry_model.specs.State.{Collection, find_collection, key_of}
+use Rattle.entry_model.specs.StateEntries.{catalogue_entry, document_entry, index_entries, index_entry, key_under}
+use Rattle.entry_model.proofs.DocumentPlaces.{IsBetween, placed}
+use Rattle.entries.proofs.EntryLemmas.{IsDocumentOf, IsKeyOf, same_first, same_rest, same_second}
+use Rattle.entry_model.proofs.LawfulParts.{same_text, kept_of, storable_of}
 use Rattle.entries.proofs.ExchangeLaws.{value_entry}
 use Rattle.entries.proofs.FrontLemmas.{another_there}
-use Rattle.entries.proofs.HomeLemmas.{inside_of, kept_of, number_fits, one_index, one_number, storable_of}
-use Rattle.entries.proofs.KeyOfDocument.{among_around, among_middle, among_there, same_keys, test_among}
-use Rattle.entries.proofs.MemberLemmas.{Among, among_append, among_back, among_each, among_flat, among_front, among_image, among_map}
+use Rattle.entries.proofs.HomeLemmas.{inside_of, number_fits, one_index, one_number}
+use Rattle.entry_model.proofs.KeyOfDocument.{among_around, among_middle, among_there, same_keys, test_among}
+use Rattle.entry_model.proofs.MemberLemmas.{Among, among_append, among_back, among_each, among_flat, among_front, among_image, among_map}
 use Rattle.entries.proofs.OtherEditLaws.{any_there, any_told}
-use Rattle.entries.proofs.PlaceLemmas.{among_put, found_split}
-use Rattle.entries.proofs.LawfulLaws.{put_in}
+use Rattle.entry_model.proofs.PlaceLemmas.{among_put, found_split}
+use Rattle.entry_model.proofs.LawfulLaws.{put_in}
 use Rattle.index.proofs.SetLemmas.{set_sorted}
 use Rattle.collections.specs.IndexChecks.{has_entry, is_empty_at, lacks_any, lacks_key, lacks_one}
 use Rattle.opening.specs.Totals.{total_documents}

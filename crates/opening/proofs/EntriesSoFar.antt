@@ -8,12 +8,12 @@ use Rattle.bson.specs.Tree.{Pairs}
 use Rattle.value_order.specs.KeyText.{tree_text}
 use Rattle.tree_model.specs.Keys.{Entry, keep_if}
 use Rattle.index.specs.Definition.{Definition}
-use Rattle.entries.specs.LawfulState.{IsKept as IsIndexKept}
-use Rattle.entries.specs.State.{Collection, key_of, put_collection, words}
-use Rattle.entries.specs.StateEntries.{catalogue_entry, key_under}
+use Rattle.entry_model.specs.LawfulState.{IsKept as IsIndexKept}
+use Rattle.entry_model.specs.State.{Collection, key_of, put_collection, words}
+use Rattle.entry_model.specs.StateEntries.{catalogue_entry, key_under}
 use Rattle.entries.proofs.EntryLemmas.{IsDocumentOf, IsKeyOf}
-use Rattle.entries.proofs.HomeLemmas.{listed_of as indexed_of}
-use Rattle.entries.proofs.MemberLemmas.{Among, among_append, among_back, among_front}
+use Rattle.entry_model.proofs.LawfulParts.{listed_of as indexed_of}
+use Rattle.entry_model.proofs.MemberLemmas.{Among, among_append, among_back, among_front}
 use Rattle.opening.specs.Totals.{total_documents}
 use Rattle.opening.specs.Judging.{AreLoaded, Progress, TakesKey, TakesName, index_in, is_of_index, listed_of, nothing_read}
 use Rattle.opening.proofs.OnceLists.{AreOnce, only, only_append}

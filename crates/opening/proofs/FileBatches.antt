@@ -11,7 +11,7 @@ use Rattle.roots.specs.declared.opening.OpenFault.{OpenFault}
 use Rattle.roots.specs.declared.opening.OpenFault.TheVariants as faults
 use Rattle.path.specs.declared.refusal.Refusal.{Refusal}
 use Rattle.path.specs.declared.refusal.Refusal.TheVariants as refusals
-use Rattle.entries.specs.State.{Collection}
+use Rattle.entry_model.specs.State.{Collection}
 use Rattle.collections.specs.Calls.{HasCause, HasFailed}
 use Rattle.collections.specs.Entries.{AreNextEntries, HasEntries, ReadsTree, entries_from}
 use Rattle.collections.specs.State.{State}

@@ -2,12 +2,13 @@
 use Rattle.std.proofs.Common.{◌≡◌, ◌⊎◌, ℕ, ◌+◌, ◌≤◌, Bool, true, false, List, [], ◌∷◌, ◌++◌, length, Some, inl, inr, refl, sym, ap, subst, ◌∙◌, arith}
 use Rattle.std.proofs.Common.{append-nil, append_assoc}
 use Rattle.tree_model.specs.Keys.{Each, Entry, IsUnder, Rises}
-use Rattle.entries.specs.Documents.{put_document, with_documents}
-use Rattle.entries.specs.State.{Collection}
-use Rattle.entries.specs.StateEntries.{Spells, catalogue_entry, collection_entries, entry_keys, state_entries}
+use Rattle.entry_model.specs.Documents.{put_document, with_documents}
+use Rattle.entry_model.specs.State.{Collection}
+use Rattle.entry_model.specs.StateEntries.{Spells, catalogue_entry, collection_entries, entry_keys, state_entries}
 use Rattle.entries.proofs.EntryLemmas.{IsDocumentOf, IsOneOf, document_among, keyed_among}
-use Rattle.entries.proofs.HomeLemmas.{home_of, kept_of}
-use Rattle.entries.proofs.MemberLemmas.{Among, among_each, among_of, contains_of}
+use Rattle.entries.proofs.HomeLemmas.{home_of}
+use Rattle.entry_model.proofs.LawfulParts.{kept_of}
+use Rattle.entry_model.proofs.MemberLemmas.{Among, among_each, among_of, contains_of}
 use Rattle.opening.specs.Totals.{total_documents}
 use Rattle.opening.specs.Judging.{AreLoaded, HasItsKeys, IsStoredAt, Makes, Progress, Takes, TakesAll, bare, is_of_index, key_count, keys_among, nothing_read}
 use Rattle.opening.specs.Judging.{numbered, with_document_at}

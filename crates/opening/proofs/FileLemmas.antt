@@ -3,7 +3,7 @@ use Rattle.std.proofs.Common.{◌≡◌, Bool, ℕ, List, refl, sym, subst}
 use Rattle.std.specs.Prelude.{IsTrue}
 use Rattle.page.specs.History.{History, KeepsWord, now, reads}
 use Rattle.roots.specs.declared.opening.OpenFault.{OpenFault}
-use Rattle.entries.specs.State.{Collection}
+use Rattle.entry_model.specs.State.{Collection}
 use Rattle.trusted_disk.specs.Trusting.{trusting}
 use Rattle.trusted_disk.specs.declared.disk.TrustedDisk.{TrustedDisk}
 use Rattle.trusted_disk.proofs.TrustingLemmas.{tells_word}

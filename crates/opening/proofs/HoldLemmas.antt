@@ -1,6 +1,6 @@
 -- What an image holds, by what may be stored (index) and by what commands store.
 use Rattle.std.proofs.Common.{ℕ, List}
-use Rattle.entries.specs.State.{Collection}
+use Rattle.entry_model.specs.State.{Collection}
 use Rattle.collections.specs.Holding as files
 use Rattle.file_state.specs.Laws.{AreStored}
 use Rattle.opening.specs.Holding.{HoldsCollections}

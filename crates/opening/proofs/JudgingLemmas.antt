@@ -9,14 +9,14 @@ use Rattle.bson.specs.Tree.{Pairs}
 use Rattle.tree_model.specs.Keys.{Entry}
 use Rattle.path.specs.declared.refusal.Refusal.{Refusal}
 use Rattle.index.specs.Definition.{Definition, IsDefinition}
-use Rattle.entries.specs.Entering.{becomes_multikey}
+use Rattle.entry_model.specs.Entering.{becomes_multikey}
 use Rattle.index.specs.KeyTexts.{keys_in_all}
-use Rattle.entries.specs.LawfulState.{IsIndexOf, IsKept as IsIndexKept, IsStorable}
-use Rattle.entries.specs.State.{Collection}
-use Rattle.entries.specs.StateEntries.{document_entry}
+use Rattle.entry_model.specs.LawfulState.{IsIndexOf, IsKept as IsIndexKept, IsStorable}
+use Rattle.entry_model.specs.State.{Collection}
+use Rattle.entry_model.specs.StateEntries.{document_entry}
 use Rattle.entries.proofs.IndexedLaws.{known}
-use Rattle.entries.proofs.LawfulLaws.{all_of, pairs_of}
-use Rattle.entries.proofs.MemberLemmas.{Among, first_of}
+use Rattle.entry_model.proofs.LawfulLaws.{all_of, pairs_of}
+use Rattle.entry_model.proofs.MemberLemmas.{Among, first_of}
 use Rattle.entries.proofs.OtherEditLaws.{any_there}
 use Rattle.opening.specs.Judging.{IsDocumentAt, IsIndexable, IsStoredAt, are_apart, has_number, keys_among}
 use Rattle.opening.proofs.RefusingCatalogues.{any_none}

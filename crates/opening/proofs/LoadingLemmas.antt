@@ -13,10 +13,10 @@ use Rattle.roots.specs.declared.opening.OpenFault.TheVariants as faults
 use Rattle.path.specs.declared.refusal.Refusal.{Refusal}
 use Rattle.path.specs.declared.refusal.Refusal.TheVariants as refusals
 use Rattle.index.specs.Definition.{Definition}
-use Rattle.entries.specs.State.{Collection, words}
-use Rattle.entries.specs.StateEntries.{key_under}
+use Rattle.entry_model.specs.State.{Collection, words}
+use Rattle.entry_model.specs.StateEntries.{key_under}
 use Rattle.entries.proofs.FitLaws.{key_size}
-use Rattle.entries.proofs.HomeLemmas.{kept_of}
+use Rattle.entry_model.proofs.LawfulParts.{kept_of}
 use Rattle.collections.specs.Entries.{HasEntries, ReadsTree}
 use Rattle.collections.specs.IndexChecks.{lacks_any}
 use Rattle.collections.specs.State.{State}

@@ -6,10 +6,10 @@ use Rattle.std.specs.declared.cmp.Ordering.TheVariants.{Less}
 use Rattle.value_order.specs.Order.{bytes_cmp}
 use Rattle.tree_model.specs.Keys.{Each, Entry, IsUnder, Rises, keep_if}
 use Rattle.tree_model.proofs.KeyLemmas.{not_under_itself}
-use Rattle.entries.specs.StateEntries.{entry_keys}
-use Rattle.entries.proofs.KeyOfDocument.{among_middle}
-use Rattle.entries.proofs.MemberLemmas.{Among, among_append, among_flat, among_map, first_of}
-use Rattle.entries.proofs.PlaceLemmas.{name_itself}
+use Rattle.entry_model.specs.StateEntries.{entry_keys}
+use Rattle.entry_model.proofs.KeyOfDocument.{among_middle}
+use Rattle.entry_model.proofs.MemberLemmas.{Among, among_append, among_flat, among_map, first_of}
+use Rattle.entry_model.proofs.PlaceLemmas.{name_itself}
 
 abbrev pub AreOnce : {X : Type 0} → List X → Type 0
 AreOnce [] = Unit {0}

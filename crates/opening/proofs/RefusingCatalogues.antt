@@ -12,23 +12,23 @@ use Rattle.value_order.specs.KeyText.{tree_text}
 use Rattle.value_order.specs.declared.texts.Direction.TheVariants as directions
 use Rattle.value_order.proofs.KeyLaws.{texts_order}
 use Rattle.tree_model.specs.Keys.{Entry, key_cmp}
-use Rattle.entries.specs.LawfulState.{AreNamedApart, AreNumberedApart, IsIndexOf}
-use Rattle.entries.specs.State.{Collection, words}
-use Rattle.entries.specs.StateEntries.{catalogue_entry}
+use Rattle.entry_model.specs.LawfulState.{AreNamedApart, AreNumberedApart, IsIndexOf}
+use Rattle.entry_model.specs.State.{Collection, words}
+use Rattle.entry_model.specs.StateEntries.{catalogue_entry}
 use Rattle.entries.proofs.CatalogueEntries.{same_value, text_size}
 use Rattle.entries.proofs.EntryLemmas.{IsDocumentOf, IsOneOf, same_rest, same_words}
 use Rattle.entries.proofs.HomeLemmas.{inside_of, not_inside, one_number}
-use Rattle.entries.proofs.LawfulLaws.{all_of}
-use Rattle.entries.proofs.MemberLemmas.{Among, among_map, first_of}
+use Rattle.entry_model.proofs.LawfulLaws.{all_of}
+use Rattle.entry_model.proofs.MemberLemmas.{Among, among_map, first_of}
 use Rattle.entries.proofs.OneStateLaws.{lawful_indexes}
-use Rattle.entries.proofs.PlaceLemmas.{apart_rest, name_itself}
+use Rattle.entry_model.proofs.PlaceLemmas.{apart_rest, name_itself}
 use Rattle.entries.proofs.WindowLemmas.{under_cmp}
 use Rattle.opening.specs.Judging.{bare, listed_of}
 use Rattle.opening.specs.Judging.{numbered, stands_behind}
 use Rattle.opening.proofs.EntriesSoFar.{IsPlain}
 use Rattle.opening.proofs.OnceLists.{AreOnce}
-use Rattle.entries.specs.LawfulState.{IsKept as IsIndexKept}
-use Rattle.entries.proofs.HomeLemmas.{listed_of as indexed_of}
+use Rattle.entry_model.specs.LawfulState.{IsKept as IsIndexKept}
+use Rattle.entry_model.proofs.LawfulParts.{listed_of as indexed_of}
 
 pub any_none : {X : Type 0} (f : X → Bool) (xs : List X) → ((x : X) → Among x xs → f x ≡ false) → list_any f xs ≡ false
 any_none f [] h = refl

@@ -22,22 +22,23 @@ use Rattle.path.specs.declared.refusal.Refusal.{Refusal}
 use Rattle.path.specs.declared.refusal.Refusal.TheVariants as refusals
 use Rattle.index.specs.Changes.{is_among}
 use Rattle.index.specs.Definition.{Definition, Field}
-use Rattle.entries.specs.Entering.{becomes_multikey}
+use Rattle.entry_model.specs.Entering.{becomes_multikey}
 use Rattle.index.specs.IndexKeys.{has_parallel_arrays, is_multikey}
 use Rattle.index.specs.KeyTexts.{encoded_keys, entry_key, is_too_long, keys_in}
-use Rattle.entries.specs.LawfulState.{IsStorable, ShareNoKey}
+use Rattle.entry_model.specs.LawfulState.{IsStorable, ShareNoKey}
 use Rattle.entries.specs.OtherKeys.{another_has, has_other_key}
-use Rattle.entries.specs.State.{Collection, key_of, put_collection, words}
-use Rattle.entries.specs.StateEntries.{Spells, catalogue_entry, document_entry, entry_keys, index_entry, key_under}
-use Rattle.entries.specs.StateReads.{SpellsLawful}
+use Rattle.entry_model.specs.State.{Collection, key_of, put_collection, words}
+use Rattle.entry_model.specs.StateEntries.{Spells, catalogue_entry, document_entry, entry_keys, index_entry, key_under}
+use Rattle.entry_model.specs.StateReads.{SpellsLawful}
 use Rattle.entries.proofs.EntryLemmas.{IsKeyOf, IsOneOf, document_among, keyed_among, same_first}
 use Rattle.entries.proofs.ExchangeLaws.{entry_value}
 use Rattle.entries.proofs.FitLaws.{key_size}
-use Rattle.entries.proofs.HomeLemmas.{document_or_key, inside_of, kept_of, not_inside, number_fits, one_number, storable_of}
-use Rattle.entries.proofs.KeyOfDocument.{among_test}
-use Rattle.entries.proofs.MemberLemmas.{Among, among_append, among_back, among_front, among_image, among_map, contains_of, of_all, of_pairs}
+use Rattle.entries.proofs.HomeLemmas.{document_or_key, inside_of, not_inside, number_fits, one_number}
+use Rattle.entry_model.proofs.LawfulParts.{kept_of, storable_of, listed_of as indexed_of}
+use Rattle.entry_model.proofs.KeyOfDocument.{among_test}
+use Rattle.entry_model.proofs.MemberLemmas.{Among, among_append, among_back, among_front, among_image, among_map, contains_of, of_all, of_pairs}
 use Rattle.entries.proofs.OtherKeyLaws.{tells_other_key}
-use Rattle.entries.proofs.PlaceLemmas.{name_itself}
+use Rattle.entry_model.proofs.PlaceLemmas.{name_itself}
 use Rattle.entries.proofs.ReadLaws.{in_map, there_of}
 use Rattle.entries.proofs.WindowLemmas.{under_cmp}
 use Rattle.collections.specs.IndexChecks.{has_entry, is_empty_at, lacks_any, lacks_key, lacks_one}
@@ -52,9 +53,8 @@ use Rattle.opening.proofs.RefusingCatalogues.{any_none, all_behind, numbered_the
 use Rattle.opening.proofs.RefusingCatalogues.{names_order, IsLike, same_catalogue, plain_one}
 use Rattle.opening.proofs.RefusingCatalogues.{bare_kept}
 use Rattle.bson.specs.Spelling.{Spells as SpellsDocument}
-use Rattle.entries.specs.LawfulState.{IsKept as IsIndexKept}
-use Rattle.entries.specs.LawfulState.{IsLawfulState as IsIndexLawful}
-use Rattle.entries.proofs.HomeLemmas.{listed_of as indexed_of}
+use Rattle.entry_model.specs.LawfulState.{IsKept as IsIndexKept}
+use Rattle.entry_model.specs.LawfulState.{IsLawfulState as IsIndexLawful}
 
 -- ---- the documents' entries
 

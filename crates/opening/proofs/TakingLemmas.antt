@@ -17,19 +17,19 @@ use Rattle.bson.specs.Lawful.{IsDocument}
 use Rattle.tree_model.specs.Keys.{Entry}
 use Rattle.tree_model.proofs.ListLemmas.{map_append}
 use Rattle.update_model.specs.Stored.{no_array}
-use Rattle.entries.specs.Documents.{put_document, with_documents}
-use Rattle.entries.specs.Entering.{AreIndexed, clashes}
+use Rattle.entry_model.specs.Documents.{put_document, with_documents}
+use Rattle.entry_model.specs.Entering.{AreIndexed, clashes}
 use Rattle.index.specs.IndexKeys.{noted}
-use Rattle.entries.specs.LawfulState.{AreNamedApart, IsKept as IsIndexKept, IsStorable}
-use Rattle.entries.specs.State.{Collection, by_order, find_collection, put_collection, uses}
-use Rattle.entries.proofs.DocumentPlaces.{placed}
-use Rattle.entries.proofs.EnteringLemmas.{stay_with}
-use Rattle.entries.proofs.EnteringSteps.{all_put, noted_so}
-use Rattle.entries.proofs.HomeLemmas.{kept_of}
+use Rattle.entry_model.specs.LawfulState.{AreNamedApart, IsKept as IsIndexKept, IsStorable}
+use Rattle.entry_model.specs.State.{Collection, by_order, find_collection, put_collection, uses}
+use Rattle.entry_model.proofs.DocumentPlaces.{placed, all_put}
+use Rattle.entry_model.proofs.EnteringLemmas.{stay_with}
+use Rattle.entries.proofs.EnteringSteps.{noted_so}
+use Rattle.entry_model.proofs.LawfulParts.{kept_of}
 use Rattle.entries.proofs.OneStateLaws.{lawful_indexes}
-use Rattle.entries.proofs.LawfulLaws.{all_of, makes_lawful, put_in, stays_lawful}
-use Rattle.entries.proofs.MemberLemmas.{Among, first_of, of_all}
-use Rattle.entries.proofs.PlaceLemmas.{apart_rest, name_itself}
+use Rattle.entry_model.proofs.LawfulLaws.{all_of, makes_lawful, put_in, stays_lawful}
+use Rattle.entry_model.proofs.MemberLemmas.{Among, first_of, of_all}
+use Rattle.entry_model.proofs.PlaceLemmas.{apart_rest, name_itself}
 use Rattle.entries.proofs.StateEditLaws.{put_same}
 use Rattle.database_model.specs.Documents.{key_of}
 use Rattle.opening.specs.Judging.{AreLoaded, IsIndexable, IsLoadingAs, IsName, IsStoredAt, bare, keys_among, listed_of, numbered, stands_behind}

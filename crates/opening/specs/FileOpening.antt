@@ -8,7 +8,7 @@ use Rattle.page.specs.Crash.{ExtendsHistory, LeavesOnly, CrashLeaves}
 use Rattle.tree_model.specs.Keys.{Entry}
 use Rattle.roots.specs.declared.opening.OpenFault.{OpenFault}
 use Rattle.roots.specs.declared.opening.OpenFault.TheVariants as faults
-use Rattle.entries.specs.State.{Collection}
+use Rattle.entry_model.specs.State.{Collection}
 use Rattle.collections.specs.Calls.{ExtendsTurn, HasFailed}
 use Rattle.collections.specs.Entries.{HasEntries, entries_from}
 use Rattle.collections.specs.State.{State}

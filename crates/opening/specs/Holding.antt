@@ -1,6 +1,6 @@
 -- What a file holds.
 use Rattle.std.specs.Prelude.{ℕ, List}
-use Rattle.entries.specs.State.{Collection}
+use Rattle.entry_model.specs.State.{Collection}
 use Rattle.collections.specs.Holding as files
 use Rattle.database_model.specs.Lawful.{IsLawfulState}
 

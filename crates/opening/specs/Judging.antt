@@ -14,12 +14,12 @@ use Rattle.tree_model.specs.Keys.{Entry}
 use Rattle.roots.specs.declared.opening.OpenFault.{OpenFault}
 use Rattle.roots.specs.declared.opening.OpenFault.TheVariants as faults
 use Rattle.index.specs.Definition.{Definition}
-use Rattle.entries.specs.Documents.{put_document, with_documents}
-use Rattle.entries.specs.Entering.{becomes_multikey, clashes}
+use Rattle.entry_model.specs.Documents.{put_document, with_documents}
+use Rattle.entry_model.specs.Entering.{becomes_multikey, clashes}
 use Rattle.index.specs.KeyTexts.{encoded_keys, keys_in_all}
-use Rattle.entries.specs.LawfulState.{IsKept as IsIndexKept, IsLawfulState as IsIndexLawful}
-use Rattle.entries.specs.State.{Collection, put_collection}
-use Rattle.entries.specs.StateEntries.{catalogue_entry, document_entry}
+use Rattle.entry_model.specs.LawfulState.{IsKept as IsIndexKept, IsLawfulState as IsIndexLawful}
+use Rattle.entry_model.specs.State.{Collection, put_collection}
+use Rattle.entry_model.specs.StateEntries.{catalogue_entry, document_entry}
 use Rattle.collections.specs.IndexChecks.{lacks_any}
 use Rattle.database_model.specs.Documents.{key_of}
 use Rattle.database_model.specs.Lawful.{IsStored}

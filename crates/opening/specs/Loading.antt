@@ -1,6 +1,6 @@
 -- What the names are that a file was found to have, and how far it was read.
 use Rattle.std.specs.Prelude.{List, [], string_bytes}
-use Rattle.entries.specs.State.{Collection}
+use Rattle.entry_model.specs.State.{Collection}
 use Rattle.opening.specs.Judging.{Progress}
 use Rattle.opening.specs.declared.judging.Named.{Named}
 use Rattle.opening.specs.declared.loading.Loading.{Loading}

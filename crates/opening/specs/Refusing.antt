@@ -5,7 +5,7 @@ use Rattle.page.specs.Crash.{ExtendsHistory, LeavesOnly}
 use Rattle.roots.specs.Root.{root_of}
 use Rattle.roots.specs.declared.opening.OpenFault.{OpenFault}
 use Rattle.roots.specs.declared.opening.OpenFault.TheVariants as faults
-use Rattle.entries.specs.State.{Collection}
+use Rattle.entry_model.specs.State.{Collection}
 use Rattle.opening.specs.Holding.{HoldsCollections}
 
 -- The disk was handed back with this fault.

@@ -1,6 +1,6 @@
 -- How much collections have together.
 use Rattle.std.specs.Prelude.{ℕ, ◌+◌, List, [], ◌∷◌, length}
-use Rattle.entries.specs.State.{Collection}
+use Rattle.entry_model.specs.State.{Collection}
 
 -- how many documents collections have
 abbrev pub total_documents : List Collection → ℕ

@@ -1,7 +1,7 @@
 -- What contracts know of the collections, whose documents are in the file alone.
 use Rattle.std.specs.Prelude.{List, refl}
 use Rattle.std.specs.Coded.{Coded, code_by, coded×, coded_list}
-use Rattle.entries.specs.State.{Collection}
+use Rattle.entry_model.specs.State.{Collection}
 use Rattle.database_model.specs.Lawful.{collection_code}
 
 -- the collections as the turn began, and as they are now

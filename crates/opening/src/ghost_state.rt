@@ -2,7 +2,7 @@
 
 ghost use Rattle.std.specs.Prelude.{◌≡◌, List};
 ghost use Rattle.std.specs.Borrow.{ftrue};
-ghost use Rattle.entries.specs.State.{Collection};
+ghost use Rattle.entry_model.specs.State.{Collection};
 ghost use Rattle.opening.specs.TurnStates.{TurnStates, turn_states_code};
 
 use std::marker::Model;

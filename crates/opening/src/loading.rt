@@ -7,7 +7,7 @@ ghost use Rattle.page.specs.History.{now, reads};
 ghost use Rattle.btree.specs.Scan.{entry_in};
 ghost use Rattle.bson.specs.Tree.{Pairs};
 ghost use Rattle.opening.specs.FileOpening.{IsFileOpened, Judges, LoadsBatch, LoadsEntries, LoadsFile};
-ghost use Rattle.entries.specs.State.{Collection};
+ghost use Rattle.entry_model.specs.State.{Collection};
 ghost use Rattle.collections.specs.Opening.{HasLimit};
 ghost use Rattle.opening.specs.Judging.{AreLoaded, HasItsKeys, IsFaultOf, IsLoadingAs, IsName, IsStoredAt, Refuses, RefusesOne, Takes, TakesAll, TakesDocument, TakesName, key_count, keys_among, listed_of, nothing_read, numbered};
 ghost use Rattle.opening.specs.Loading.{named_as, progress_of};

@@ -24,7 +24,7 @@ use Rattle.replies.specs.FirstBatch.{IsNoBatch}
 use Rattle.replies.specs.View.{batch_name}
 use Rattle.replies.specs.declared.batch_spelling.BatchKind.TheVariants as batches
 use Rattle.projection.specs.Projection.{Projection}
-use Rattle.entries.specs.State.{Collection}
+use Rattle.entry_model.specs.State.{Collection}
 use Rattle.walks.specs.InOrder.{IsOrderedBatch}
 use Rattle.walks.specs.Listed.{AreListedIn, Chosen, IsListedBatch, given_of}
 use Rattle.walks.specs.declared.batches.BatchAsked.{BatchAsked}

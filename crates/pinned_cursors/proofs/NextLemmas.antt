@@ -20,8 +20,8 @@ use Rattle.database_model.specs.Refusals.{ok_reply}
 use Rattle.database_model.specs.World.{CursorTable}
 use Rattle.replies.specs.View.{batch_name}
 use Rattle.replies.specs.declared.batch_spelling.BatchKind.TheVariants as batches
-use Rattle.entries.specs.State.{Collection, key_of}
-use Rattle.entries.specs.StateReads.{find_document}
+use Rattle.entry_model.specs.State.{Collection, key_of}
+use Rattle.entry_model.specs.StateReads.{find_document}
 use Rattle.index.specs.View.{texts_of}
 use Rattle.projection.specs.Projection.{Projection, project}
 use Rattle.asked_documents.specs.Asking.{IsAskedIn}

@@ -14,7 +14,7 @@ use Rattle.cursors.specs.Changes.{opened}
 use Rattle.cursors.specs.Held.{Held, HeldCursor, HeldWalk, Way, table_of}
 use Rattle.cursors.specs.TableLaws.{opened_in_table}
 use Rattle.pinned_cursors.specs.Opening.{IsLeftOf, OpensPinned, Tells, held_walk, that_keep}
-use Rattle.entries.specs.State.{Collection}
+use Rattle.entry_model.specs.State.{Collection}
 use Rattle.collections.specs.Standing.{HasState}
 use Rattle.pinned_cursors.specs.Tied.{AreTied, HasFor, ReadsRest}
 use Rattle.pinned_cursors.specs.Turns.{OnlyPins}

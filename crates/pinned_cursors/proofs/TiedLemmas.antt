@@ -8,7 +8,7 @@ use Rattle.tree_model.specs.Keys.{times}
 use Rattle.pager.specs.Pinning.{IsPinned}
 use Rattle.pager.specs.declared.version.Version.{Version}
 use Rattle.pager.proofs.BookLemmas.{one_time}
-use Rattle.entries.specs.State.{Collection}
+use Rattle.entry_model.specs.State.{Collection}
 use Rattle.collections.specs.State.{State}
 use Rattle.collections.specs.Calls.{ExtendsTurn}
 use Rattle.collections.specs.Versions.{HasSinceStart, HasVersion, KeepsEach, KeepsSinceStart, PinsNow, UnpinsVersion, pins_of}

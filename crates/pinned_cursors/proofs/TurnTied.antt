@@ -2,7 +2,7 @@
 use Rattle.std.proofs.Common.{◌≡◌, ◌≢◌, Bool, false, true, List, [], ◌∷◌, map, Option, Some, None, Result, Ok, Err, refl, sym, ap, subst, ◌∙◌, arith}
 use Rattle.std.specs.Prelude.{◌&&◌, cond, not, MatchOption, ⊤}
 use Rattle.std.specs.List.{AllByRecursion, filter}
-use Rattle.entries.specs.State.{Collection}
+use Rattle.entry_model.specs.State.{Collection}
 use Rattle.pager.specs.declared.version.Version.{Version}
 use Rattle.page.specs.History.{History, KeepsWord}
 use Rattle.tree_model.specs.Keys.{times}

@@ -4,7 +4,7 @@ use Rattle.std.specs.Prelude.{OnErr, OnOk, is_some, not}
 use Rattle.std.specs.List.{filter}
 use Rattle.bson.specs.Tree.{Pairs}
 use Rattle.page.specs.History.{History, KeepsWord}
-use Rattle.entries.specs.State.{Collection}
+use Rattle.entry_model.specs.State.{Collection}
 use Rattle.collections.specs.Reading.{IsNumbered}
 use Rattle.collections.specs.Standing.{HasState}
 use Rattle.collections.specs.State.{State}

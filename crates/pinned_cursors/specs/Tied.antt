@@ -5,7 +5,7 @@ use Rattle.std.specs.List.{AllByRecursion}
 use Rattle.bson.specs.Tree.{Pairs}
 use Rattle.page.specs.History.{History, KeepsWord}
 use Rattle.tree_model.specs.Keys.{times}
-use Rattle.entries.specs.State.{Collection}
+use Rattle.entry_model.specs.State.{Collection}
 use Rattle.collections.specs.Reading.{IsNumbered}
 use Rattle.pager.specs.declared.version.Version.{Version}
 use Rattle.collections.specs.State.{State}

@@ -1,7 +1,7 @@
 -- What a call that pins, or ends pins, leaves of the turn.
 use Rattle.std.specs.Prelude.{◌≡◌, Bool, List, Option, MatchOption}
 use Rattle.page.specs.History.{History}
-use Rattle.entries.specs.State.{Collection}
+use Rattle.entry_model.specs.State.{Collection}
 use Rattle.collections.specs.Marks.{IsUntouched}
 use Rattle.collections.specs.Standing.{HasState}
 use Rattle.collections.specs.State.{State}

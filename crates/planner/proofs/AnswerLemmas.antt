@@ -13,12 +13,12 @@ use Rattle.filter.specs.Matches.{matches}
 use Rattle.sort.specs.Sort.{SortField, compare_by, order}
 use Rattle.sort.proofs.SortLemmas.{orders_stably}
 use Rattle.index.specs.IndexKeys.{is_multikey}
-use Rattle.entries.specs.LawfulState.{IsStorable, IsRising}
-use Rattle.entries.specs.State.{key_of}
-use Rattle.entries.proofs.HomeLemmas.{listed_of}
-use Rattle.entries.proofs.MemberLemmas.{Among, among_of, contains_of, of_all}
+use Rattle.entry_model.specs.LawfulState.{IsStorable, IsRising}
+use Rattle.entry_model.specs.State.{key_of}
+use Rattle.entry_model.proofs.LawfulParts.{listed_of}
+use Rattle.entry_model.proofs.MemberLemmas.{Among, among_of, contains_of, of_all}
 use Rattle.planner.specs.AnswerLaws.{answer_cmp, FrontOfAnswer, HaveSameMembers, OrderedOnce, SortsToAnswer, IsFound, NeverChangesAnswer, KeptAreNoted}
-use Rattle.planner.specs.Plan.{fields_of, is_multi, range_in}
+use Rattle.plan_model.specs.Plan.{fields_of, is_multi, range_in}
 use Rattle.planner.proofs.KeyBytesLemmas.{has_bytes_in_range}
 use Rattle.planner.proofs.RisingLemmas.{Rises, rises_of, pairs_of, front_rising, one_rising, sorted_rises, among_sorted, sorted_among, filter_among}
 use Rattle.planner.proofs.RisingLemmas.{among_filter, rises_filter}

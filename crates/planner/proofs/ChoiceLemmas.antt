@@ -6,7 +6,7 @@ use Rattle.std.specs.List.{AllByRecursion}
 use Rattle.bson.specs.Tree.{Tree}
 use Rattle.std.proofs.lemmas.Bool.{ltb-true, ltb-false, eqb-true, eqb-false}
 use Rattle.planner.specs.ChoiceLaws.{Outranks, IsNoHelp, IsFirstBest, IsChosen, ChoosesFirstBest}
-use Rattle.planner.specs.Plan.{Range, scan, by_index, range_in, has_end, rank, best, plan_of}
+use Rattle.plan_model.specs.Plan.{Range, scan, by_index, range_in, has_end, rank, best, plan_of}
 
 -- ---- ranks
 

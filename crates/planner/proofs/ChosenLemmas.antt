@@ -4,9 +4,9 @@ use Rattle.std.specs.Prelude.{Contains, unwrap_or}
 use Rattle.filter.specs.Condition.{Conditions}
 use Rattle.sort.specs.Sort.{SortField}
 use Rattle.index.specs.Definition.{Definition}
-use Rattle.entries.proofs.MemberLemmas.{Among, among_back, among_map, contains_of}
+use Rattle.entry_model.proofs.MemberLemmas.{Among, among_back, among_map, contains_of}
 use Rattle.planner.specs.ChoiceLaws.{IsChosen, IsFirstBest, all_ranges}
-use Rattle.planner.specs.Plan.{Range, by_index, choose, range_in}
+use Rattle.plan_model.specs.Plan.{Range, by_index, choose, range_in}
 use Rattle.planner.proofs.ChoiceLemmas.{chooses_first_best}
 
 -- it is what the filter and the sort give in an index of the collection

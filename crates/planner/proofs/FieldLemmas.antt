@@ -12,8 +12,8 @@ use Rattle.bson.specs.declared.value.Value.{Value}
 use Rattle.filter.specs.Condition.{Conditions}
 use Rattle.sort.specs.Sort.{SortField}
 use Rattle.index.specs.Definition.{Field}
-use Rattle.planner.specs.Usable.{nothing, is_path}
-use Rattle.planner.specs.Plan.{asked_of, and_then, leading, asked_next, is_sorted_at, sorts_as}
+use Rattle.plan_model.specs.Usable.{nothing, is_path}
+use Rattle.plan_model.specs.Plan.{asked_of, and_then, leading, asked_next, is_sorted_at, sorts_as}
 use Rattle.planner.specs.View.{value_in, values_of}
 
 -- a path of two parts or more isn't one of one part

@@ -16,9 +16,9 @@ use Rattle.sort.specs.Sort.{SortField}
 use Rattle.index.specs.Definition.{Definition}
 use Rattle.index.specs.IndexKeys.{index_keys, is_multikey}
 use Rattle.index.specs.KeyTexts.{encoded_keys, key_bytes}
-use Rattle.entries.specs.LawfulState.{IsStorable}
-use Rattle.entries.specs.State.{key_of}
-use Rattle.entries.proofs.MemberLemmas.{Among, among_map, among_of, contains_of, of_all}
+use Rattle.entry_model.specs.LawfulState.{IsStorable}
+use Rattle.entry_model.specs.State.{key_of}
+use Rattle.entry_model.proofs.MemberLemmas.{Among, among_map, among_of, contains_of, of_all}
 use Rattle.index.proofs.SpellableLaws.{keys_spellable}
 use Rattle.planner.specs.AnswerLaws.{IsNotedFor, RisesInOrder, answer_cmp}
 use Rattle.planner.specs.FirstIds.{FirstIdsLead}
@@ -26,7 +26,7 @@ use Rattle.planner.specs.FoundIds.{ids_of}
 use Rattle.planner.specs.KeyRange.{has_key}
 use Rattle.planner.specs.KeyScan.{id_text}
 use Rattle.planner.specs.KeySpan.{first_key, last_key}
-use Rattle.planner.specs.Plan.{is_multi, range_in}
+use Rattle.plan_model.specs.Plan.{is_multi, range_in}
 use Rattle.planner.specs.RangeReading.{IsEntryText, LiesBetween}
 use Rattle.planner.proofs.AnswerLemmas.{document_is_key, front_of_answer, sorts_to_answer}
 use Rattle.planner.proofs.FoundIdLemmas.{each_found, id_of, same_document, set_members}

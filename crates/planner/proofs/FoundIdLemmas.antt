@@ -18,12 +18,12 @@ use Rattle.value_order.proofs.KeyLaws.{texts_order}
 use Rattle.filter.specs.Matches.{matches}
 use Rattle.index.specs.Definition.{Definition}
 use Rattle.index.specs.KeyTexts.{ascending_set}
-use Rattle.entries.specs.LawfulState.{IsStorable, IsRising}
-use Rattle.entries.specs.State.{key_of}
-use Rattle.entries.specs.StateReads.{find_document}
-use Rattle.entries.proofs.EntryLemmas.{id_is_key, same_id}
-use Rattle.entries.proofs.KeyOfDocument.{among_test, test_among}
-use Rattle.entries.proofs.MemberLemmas.{Among, among_each, among_flat, among_map, among_of, contains_of, of_all, of_pairs}
+use Rattle.entry_model.specs.LawfulState.{IsStorable, IsRising}
+use Rattle.entry_model.specs.State.{key_of}
+use Rattle.entry_model.specs.StateReads.{find_document}
+use Rattle.entry_model.proofs.LawfulParts.{id_is_key, same_id}
+use Rattle.entry_model.proofs.KeyOfDocument.{among_test, test_among}
+use Rattle.entry_model.proofs.MemberLemmas.{Among, among_each, among_flat, among_map, among_of, contains_of, of_all, of_pairs}
 use Rattle.index.proofs.SetLemmas.{set_among, set_sorted}
 use Rattle.planner.specs.FoundIds.{IdsLeadToMatching, ids_in, ids_of}
 use Rattle.planner.specs.KeyScan.{id_text}

@@ -4,7 +4,7 @@ use Rattle.std.specs.Option.{option_or}
 use Rattle.filter.specs.Condition.{Condition}
 use Rattle.filter.specs.View.{condition_of, conditions_of}
 use Rattle.filter.specs.declared.condition.Condition.{Condition as Made}
-use Rattle.planner.specs.Usable.{Usable, nothing, or, gather}
+use Rattle.plan_model.specs.Usable.{Usable, nothing, or, gather}
 
 or_in_turn : {X : Type 0} (a b c : Option X) → option_or (option_or a b) c ≡ option_or a (option_or b c)
 or_in_turn None b c = refl

@@ -13,12 +13,12 @@ use Rattle.value_order.specs.Order.{bytes_cmp, compare, value}
 use Rattle.value_order.specs.TotalLaws.{compare_total}
 use Rattle.value_order.specs.declared.texts.Direction.TheVariants.{Ascending}
 use Rattle.value_order.proofs.KeyLaws.{texts_order, texts_agree}
-use Rattle.entries.specs.LawfulState.{IsStorable, IsRising}
-use Rattle.entries.specs.State.{key_of}
-use Rattle.entries.specs.StateReads.{find_document}
-use Rattle.entries.proofs.EntryLemmas.{id_is_key}
-use Rattle.entries.proofs.ReadLaws.{document_some}
-use Rattle.entries.proofs.MemberLemmas.{Among, among_of, contains_of, of_all}
+use Rattle.entry_model.specs.LawfulState.{IsStorable, IsRising}
+use Rattle.entry_model.specs.State.{key_of}
+use Rattle.entry_model.specs.StateReads.{find_document}
+use Rattle.entry_model.proofs.LawfulParts.{id_is_key}
+use Rattle.entry_model.proofs.DocumentPlaces.{document_some}
+use Rattle.entry_model.proofs.MemberLemmas.{Among, among_of, contains_of, of_all}
 use Rattle.planner.specs.IdLaws.{AreIdTexts, FindsByIds, found_by, with_found}
 use Rattle.planner.proofs.RisingLemmas.{Below, Rises, rises_of, one_rising, filter_among, among_filter, rises_filter}
 

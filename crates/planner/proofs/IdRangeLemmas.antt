@@ -10,15 +10,15 @@ use Rattle.filter.specs.Matches.{matches}
 use Rattle.index.specs.IndexKeys.{index_keys, is_multikey, keys_of, meets_array}
 use Rattle.index.specs.KeyTexts.{key_bytes}
 use Rattle.index.specs.Laws.{IsIndexKey}
-use Rattle.entries.specs.LawfulState.{IsStorable}
-use Rattle.entries.specs.State.{key_of}
+use Rattle.entry_model.specs.LawfulState.{IsStorable}
+use Rattle.entry_model.specs.State.{key_of}
 use Rattle.index.proofs.SpellableLaws.{keys_spellable}
 use Rattle.planner.specs.IdRange.{HasIdInRange, HasPlainId, IdRangeSelects}
 use Rattle.planner.specs.KeyRange.{has_key}
-use Rattle.planner.specs.Plan.{fields_of, range_in}
+use Rattle.plan_model.specs.Plan.{fields_of, range_in}
 use Rattle.planner.specs.RangeReading.{LiesBetween}
 use Rattle.planner.specs.KeySpan.{first_key, last_key}
-use Rattle.planner.specs.Usable.{no_array}
+use Rattle.plan_model.specs.Usable.{no_array}
 use Rattle.planner.proofs.AnswerLemmas.{document_is_key}
 use Rattle.planner.proofs.KeyBytesLemmas.{has_bytes_behind}
 use Rattle.planner.proofs.KeyRangeLemmas.{has_key_in_range}

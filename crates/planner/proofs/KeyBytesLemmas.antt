@@ -27,8 +27,8 @@ use Rattle.index.specs.KeyTexts.{key_bytes, ascending_set}
 use Rattle.index.specs.Laws.{IsIndexKey}
 use Rattle.index.proofs.SetLemmas.{set_among, same_itself}
 use Rattle.index.proofs.SpellableLaws.{keys_spellable}
-use Rattle.planner.specs.Usable.{Bound}
-use Rattle.planner.specs.Plan.{Range, fields_of, range_in}
+use Rattle.plan_model.specs.Usable.{Bound}
+use Rattle.plan_model.specs.Plan.{Range, fields_of, range_in}
 use Rattle.planner.specs.KeyRange.{is_equal_to, lies_by, lies_within, is_in, has_key, front_text, place_by, in_direction, is_of_class, bytes_lie_by}
 use Rattle.planner.specs.KeyRange.{bytes_within, first_bytes_lie, has_bytes, IsSpellable, HasBytesInRange}
 use Rattle.planner.proofs.UsableLemmas.{and_both, and_first, and_second, or_last}

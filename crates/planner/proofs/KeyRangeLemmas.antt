@@ -11,8 +11,8 @@ use Rattle.filter.specs.Matches.{matches}
 use Rattle.index.specs.Definition.{Field}
 use Rattle.index.specs.IndexKeys.{keys_of, or_missing, field_keys, index_keys, field_meets_array, is_multikey}
 use Rattle.index.proofs.OneKeyLaws.{one_key}
-use Rattle.planner.specs.Usable.{Bound, Usable}
-use Rattle.planner.specs.Plan.{asked_of, and_then, leading, asked_next, upper_beside, fields_of, is_multi}
+use Rattle.plan_model.specs.Usable.{Bound, Usable}
+use Rattle.plan_model.specs.Plan.{asked_of, and_then, leading, asked_next, upper_beside, fields_of, is_multi}
 use Rattle.planner.specs.KeyRange.{is_equal_to, lies_by, lies_within, is_in, HasKeyInRange}
 use Rattle.planner.proofs.UsableLemmas.{and_both, or_none, or_last, any_more, any_append, append_any, Meets, meets_usable}
 

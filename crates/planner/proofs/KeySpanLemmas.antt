@@ -20,8 +20,8 @@ use Rattle.filter.specs.Matches.{allows}
 use Rattle.filter.specs.declared.condition.Comparison.{Comparison}
 use Rattle.filter.specs.declared.condition.Comparison.TheVariants.{Below, AtMost, Above, AtLeast}
 use Rattle.index.specs.Definition.{Field}
-use Rattle.planner.specs.Usable.{Bound, Usable, nothing, or, bound_at, range_of, usable_in, gather, all_usable, is_path, usable_there}
-use Rattle.planner.specs.Plan.{Range, fields_of, is_multi, leading, asked_next, range_in}
+use Rattle.plan_model.specs.Usable.{Bound, Usable, nothing, or, bound_at, range_of, usable_in, gather, all_usable, is_path, usable_there}
+use Rattle.plan_model.specs.Plan.{Range, fields_of, is_multi, leading, asked_next, range_in}
 use Rattle.planner.specs.KeyRange.{front_text, place_by, in_direction, is_of_class, bytes_lie_by, bytes_within, first_bytes_lie, has_bytes}
 use Rattle.planner.specs.KeySpan.{bound_text, least_end, least_text, first_key, last_key, SpansRange}
 use Rattle.planner.proofs.UsableLemmas.{and_first, and_second}

@@ -10,15 +10,15 @@ use Rattle.index.specs.Definition.{Field}
 use Rattle.index.specs.IndexKeys.{index_keys, is_multikey}
 use Rattle.index.specs.KeyTexts.{encoded_keys, key_bytes}
 use Rattle.index.specs.Laws.{IsIndexKey}
-use Rattle.entries.specs.LawfulState.{IsStorable}
-use Rattle.entries.specs.State.{key_of}
-use Rattle.entries.proofs.KeyOfDocument.{IsEncoded, encoded_of, among_test, test_among}
-use Rattle.entries.proofs.MemberLemmas.{Among, among_image, among_of, contains_of, of_all}
+use Rattle.entry_model.specs.LawfulState.{IsStorable}
+use Rattle.entry_model.specs.State.{key_of}
+use Rattle.entry_model.proofs.KeyOfDocument.{IsEncoded, encoded_of, among_test, test_among}
+use Rattle.entry_model.proofs.MemberLemmas.{Among, among_image, among_of, contains_of, of_all}
 use Rattle.index.proofs.SetLemmas.{set_among}
 use Rattle.index.proofs.SpellableLaws.{keys_spellable}
 use Rattle.planner.specs.KeyRange.{has_key}
 use Rattle.planner.specs.KeyScan.{id_text}
-use Rattle.planner.specs.Plan.{is_multi, range_in}
+use Rattle.plan_model.specs.Plan.{is_multi, range_in}
 use Rattle.planner.specs.RangeReading.{RangeFindsMatching}
 use Rattle.planner.proofs.AnswerLemmas.{document_is_key}
 use Rattle.planner.proofs.KeyBytesLemmas.{has_bytes_behind}

@@ -8,7 +8,7 @@ use Rattle.std.specs.declared.cmp.Ordering.{Ordering}
 use Rattle.std.specs.declared.cmp.Ordering.TheVariants.{Less, Equal, Greater}
 use Rattle.std.proofs.lemmas.Cmp.{tied_itself}
 use Rattle.sort.specs.Sort.{put_before, insert_in_order, sorted}
-use Rattle.entries.proofs.MemberLemmas.{Among}
+use Rattle.entry_model.proofs.MemberLemmas.{Among}
 
 module _ {X : Type 0} (cmp : X → X → Ordering) where
   -- it is below each

@@ -16,15 +16,15 @@ use Rattle.sort.specs.Sort.{SortField, keys_of as sort_keys_of, key_among, sort_
 use Rattle.index.specs.Definition.{Field}
 use Rattle.index.specs.IndexKeys.{keys_of, or_missing, field_keys, index_keys, field_meets_array, is_multikey}
 use Rattle.index.specs.Laws.{IsIndexKey, index_key_cmp}
-use Rattle.entries.specs.LawfulState.{IsStorable}
-use Rattle.entries.specs.State.{key_of}
-use Rattle.entries.proofs.EntryLemmas.{id_is_key}
-use Rattle.entries.proofs.MemberLemmas.{Among, among_of, among_flat, among_map, of_all}
+use Rattle.entry_model.specs.LawfulState.{IsStorable}
+use Rattle.entry_model.specs.State.{key_of}
+use Rattle.entry_model.proofs.LawfulParts.{id_is_key}
+use Rattle.entry_model.proofs.MemberLemmas.{Among, among_of, among_flat, among_map, of_all}
 use Rattle.index.proofs.OrderLaws.{entries_order}
 use Rattle.index.proofs.SpellableLaws.{keys_spellable}
 use Rattle.planner.specs.AnswerLaws.{WalksInOrder}
-use Rattle.planner.specs.Plan.{is_direction, is_sorted_at, sorts_as}
-use Rattle.planner.specs.Usable.{is_path}
+use Rattle.plan_model.specs.Plan.{is_direction, is_sorted_at, sorts_as}
+use Rattle.plan_model.specs.Usable.{is_path}
 use Rattle.planner.proofs.AnswerLemmas.{document_is_key}
 use Rattle.planner.proofs.KeyRangeLemmas.{one_of}
 use Rattle.planner.proofs.UsableLemmas.{and_first, and_second, one_path}

@@ -5,7 +5,7 @@ use Rattle.std.specs.Prelude.{OnOk, slice_get}
 use Rattle.std.specs.Borrow.{Bor}
 use Rattle.bson.specs.declared.value.Value.{Value}
 use Rattle.index.specs.Definition.{Field}
-use Rattle.planner.specs.Usable.{Bound}
+use Rattle.plan_model.specs.Usable.{Bound}
 use Rattle.planner.specs.KeyRange.{front_text}
 use Rattle.planner.specs.KeySpan.{least_end, least_text}
 use Rattle.planner.specs.View.{values_of}

@@ -17,7 +17,7 @@ use Rattle.filter.specs.Matches.{is_equal, allows, is_null, candidate_passes, pa
 use Rattle.filter.specs.declared.condition.Comparison.{Comparison}
 use Rattle.filter.specs.declared.condition.Comparison.TheVariants.{Below, AtMost, Above, AtLeast}
 use Rattle.index.specs.IndexKeys.{keys_of, or_missing}
-use Rattle.planner.specs.Usable.{Usable, nothing, or, no_array, bound_at, range_of, usable_in, all_usable, is_path, usable_there, usable}
+use Rattle.plan_model.specs.Usable.{Usable, nothing, or, no_array, bound_at, range_of, usable_in, all_usable, is_path, usable_there, usable}
 use Rattle.planner.specs.KeyRange.{is_equal_to, lies_by}
 
 -- ---- tests

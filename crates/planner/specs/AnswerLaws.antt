@@ -14,9 +14,9 @@ use Rattle.sort.specs.Sort.{SortField, compare_by, order}
 use Rattle.index.specs.Definition.{Definition}
 use Rattle.index.specs.IndexKeys.{index_keys, is_multikey}
 use Rattle.index.specs.KeyTexts.{key_bytes, encoded_keys, entry_key}
-use Rattle.entries.specs.State.{Collection, key_of}
-use Rattle.entries.specs.LawfulState.{IsStorable, IsRising, IsKept}
-use Rattle.planner.specs.Plan.{Range, fields_of, is_multi, range_in}
+use Rattle.entry_model.specs.State.{Collection, key_of}
+use Rattle.entry_model.specs.LawfulState.{IsStorable, IsRising, IsKept}
+use Rattle.plan_model.specs.Plan.{Range, fields_of, is_multi, range_in}
 use Rattle.planner.specs.KeyRange.{has_bytes, IsSpellable}
 
 -- the order of an answer: by the sort, then by `_id`

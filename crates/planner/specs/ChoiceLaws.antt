@@ -5,7 +5,7 @@ use Rattle.std.specs.List.{AllByRecursion}
 use Rattle.filter.specs.Condition.{Conditions}
 use Rattle.sort.specs.Sort.{SortField}
 use Rattle.index.specs.Definition.{Definition}
-use Rattle.planner.specs.Plan.{Range, Plan, scan, by_index, range_in, has_end, choose}
+use Rattle.plan_model.specs.Plan.{Range, Plan, scan, by_index, range_in, has_end, choose}
 
 -- what the filter and the sort give in each index
 abbrev pub all_ranges : Conditions → List SortField → List Definition → List Range

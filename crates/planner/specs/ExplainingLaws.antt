@@ -8,11 +8,11 @@ use Rattle.bson.specs.Tree.{Tree}
 use Rattle.filter.specs.Condition.{Conditions}
 use Rattle.sort.specs.Sort.{SortField}
 use Rattle.index.specs.Definition.{Field, Definition}
-use Rattle.planner.specs.Usable.{Bound}
-use Rattle.planner.specs.Plan.{Range, scan, by_index, fields_of, asked_of, and_then, leading}
-use Rattle.planner.specs.Plan.{range_in, rank, best, plan_of, choose}
-use Rattle.planner.specs.Explaining.{index_name, range_word, sort_word, in_words, range_text}
-use Rattle.planner.specs.Explaining.{explain_text}
+use Rattle.plan_model.specs.Usable.{Bound}
+use Rattle.plan_model.specs.Plan.{Range, scan, by_index, fields_of, asked_of, and_then, leading}
+use Rattle.plan_model.specs.Plan.{range_in, rank, best, plan_of, choose}
+use Rattle.plan_model.specs.Explaining.{index_name, range_word, sort_word, in_words, range_text}
+use Rattle.plan_model.specs.Explaining.{explain_text}
 
 -- ---- one range
 

@@ -10,14 +10,14 @@ use Rattle.filter.specs.Condition.{Conditions}
 use Rattle.filter.specs.Matches.{matches}
 use Rattle.sort.specs.Sort.{SortField, order}
 use Rattle.index.specs.Definition.{Definition}
-use Rattle.entries.specs.LawfulState.{IsStorable, IsRising}
-use Rattle.entries.specs.State.{key_of}
-use Rattle.entries.specs.StateReads.{find_document}
+use Rattle.entry_model.specs.LawfulState.{IsStorable, IsRising}
+use Rattle.entry_model.specs.State.{key_of}
+use Rattle.entry_model.specs.StateReads.{find_document}
 use Rattle.planner.specs.AnswerLaws.{IsNotedFor}
 use Rattle.planner.specs.FoundIds.{ids_of}
 use Rattle.planner.specs.KeyRange.{IsSpellable}
 use Rattle.planner.specs.KeySpan.{first_key, last_key}
-use Rattle.planner.specs.Plan.{Range, range_in}
+use Rattle.plan_model.specs.Plan.{Range, range_in}
 use Rattle.planner.specs.RangeReading.{IsEntryText, LiesBetween}
 
 -- Texts of entries of these documents in an index, ascending; another one that lies between the

@@ -10,13 +10,13 @@ use Rattle.filter.specs.Matches.{matches}
 use Rattle.sort.specs.Sort.{SortField}
 use Rattle.index.specs.Definition.{Field, Definition}
 use Rattle.index.specs.KeyTexts.{ascending_set}
-use Rattle.entries.specs.LawfulState.{IsStorable, IsRising}
-use Rattle.entries.specs.State.{key_of}
-use Rattle.entries.specs.StateReads.{find_document}
+use Rattle.entry_model.specs.LawfulState.{IsStorable, IsRising}
+use Rattle.entry_model.specs.State.{key_of}
+use Rattle.entry_model.specs.StateReads.{find_document}
 use Rattle.planner.specs.AnswerLaws.{IsNotedFor}
 use Rattle.planner.specs.KeyRange.{IsSpellable}
 use Rattle.planner.specs.KeyScan.{id_text}
-use Rattle.planner.specs.Plan.{range_in}
+use Rattle.plan_model.specs.Plan.{range_in}
 use Rattle.planner.specs.RangeReading.{AreReadFrom}
 
 -- the texts of the `_id`s in the texts of entries

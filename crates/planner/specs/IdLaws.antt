@@ -7,9 +7,9 @@ use Rattle.bson.specs.Tree.{Tree, Pairs}
 use Rattle.value_order.specs.KeyText.{tree_text}
 use Rattle.value_order.specs.Laws.{IsKey}
 use Rattle.value_order.specs.Order.{bytes_cmp, value}
-use Rattle.entries.specs.LawfulState.{IsRising, IsStorable}
-use Rattle.entries.specs.State.{key_of}
-use Rattle.entries.specs.StateReads.{find_document}
+use Rattle.entry_model.specs.LawfulState.{IsRising, IsStorable}
+use Rattle.entry_model.specs.State.{key_of}
+use Rattle.entry_model.specs.StateReads.{find_document}
 
 -- These are the texts of these values, each of which BSON can spell.
 abbrev pub AreIdTexts : List (List ℕ) → List Tree → Type 0

@@ -6,13 +6,13 @@ use Rattle.value_order.specs.KeyText.{tree_text}
 use Rattle.filter.specs.Condition.{Conditions}
 use Rattle.filter.specs.Matches.{matches}
 use Rattle.sort.specs.Sort.{SortField}
-use Rattle.entries.specs.LawfulState.{IsStorable}
-use Rattle.entries.specs.State.{key_of}
+use Rattle.entry_model.specs.LawfulState.{IsStorable}
+use Rattle.entry_model.specs.State.{key_of}
 use Rattle.planner.specs.KeyRange.{IsSpellable}
 use Rattle.planner.specs.KeySpan.{first_key, last_key}
-use Rattle.planner.specs.Plan.{Range, fields_of, range_in}
+use Rattle.plan_model.specs.Plan.{Range, fields_of, range_in}
 use Rattle.planner.specs.RangeReading.{LiesBetween}
-use Rattle.planner.specs.Usable.{no_array}
+use Rattle.plan_model.specs.Usable.{no_array}
 
 -- the `_id` is no array
 abbrev pub HasPlainId : Pairs → Type 0

@@ -18,8 +18,8 @@ use Rattle.sort.specs.Sort.{SortField}
 use Rattle.index.specs.Definition.{Field, Definition}
 use Rattle.index.specs.IndexKeys.{index_keys, is_multikey}
 use Rattle.index.specs.KeyTexts.{encoded_keys}
-use Rattle.planner.specs.Usable.{Bound}
-use Rattle.planner.specs.Plan.{Range, fields_of, is_multi, range_in}
+use Rattle.plan_model.specs.Usable.{Bound}
+use Rattle.plan_model.specs.Plan.{Range, fields_of, is_multi, range_in}
 
 -- ---- keys as lists of values
 

@@ -9,8 +9,8 @@ use Rattle.value_order.specs.declared.texts.Direction.TheVariants.{Ascending, De
 use Rattle.filter.specs.Condition.{Conditions}
 use Rattle.sort.specs.Sort.{SortField}
 use Rattle.index.specs.Definition.{Field, Definition}
-use Rattle.planner.specs.Usable.{Bound}
-use Rattle.planner.specs.Plan.{Range, fields_of, range_in}
+use Rattle.plan_model.specs.Usable.{Bound}
+use Rattle.plan_model.specs.Plan.{Range, fields_of, range_in}
 use Rattle.planner.specs.KeyRange.{front_text, place_by, has_bytes}
 
 abbrev pub bound_text : Direction → Bound → List ℕ

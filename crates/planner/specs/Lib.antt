@@ -1,6 +1,3 @@
-pub mod Usable
-pub mod Plan
-pub mod Explaining
 pub mod ExplainingLaws
 pub mod KeyRange
 pub mod KeyScan

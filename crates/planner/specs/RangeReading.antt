@@ -10,13 +10,13 @@ use Rattle.filter.specs.Matches.{matches}
 use Rattle.sort.specs.Sort.{SortField}
 use Rattle.index.specs.Definition.{Definition}
 use Rattle.index.specs.KeyTexts.{encoded_keys}
-use Rattle.entries.specs.LawfulState.{IsStorable}
-use Rattle.entries.specs.State.{key_of}
+use Rattle.entry_model.specs.LawfulState.{IsStorable}
+use Rattle.entry_model.specs.State.{key_of}
 use Rattle.planner.specs.AnswerLaws.{IsNotedFor}
 use Rattle.planner.specs.KeyRange.{place_by, IsSpellable}
 use Rattle.planner.specs.KeyScan.{id_text}
 use Rattle.planner.specs.KeySpan.{first_key, last_key}
-use Rattle.planner.specs.Plan.{Range, range_in}
+use Rattle.plan_model.specs.Plan.{Range, range_in}
 
 -- the text of an entry of one of these documents: an encoded key, and the text of the `_id`
 abbrev pub IsEntryText : List Pairs → Definition → List ℕ → Type 0

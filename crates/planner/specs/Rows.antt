@@ -9,8 +9,8 @@ use Rattle.filter.specs.Parsing.{read_filter}
 use Rattle.filter.specs.Rows.{number, nothing, one, two, single, asks, between}
 use Rattle.sort.specs.SortReading.{read_sort}
 use Rattle.index.specs.Definition.{Field, Definition}
-use Rattle.planner.specs.Plan.{choose}
-use Rattle.planner.specs.Explaining.{explain_text}
+use Rattle.plan_model.specs.Plan.{choose}
+use Rattle.plan_model.specs.Explaining.{explain_text}
 
 abbrev pub rising : List ℕ → Field
 rising path = record { path = path; direction = Ascending }

@@ -5,8 +5,8 @@ use Rattle.bson.specs.Tree.{Tree}
 use Rattle.bson.specs.View.{tree}
 use Rattle.bson.specs.declared.value.Value.{Value}
 use Rattle.index.specs.Definition.{Definition, Field}
-use Rattle.planner.specs.Usable.{Bound, Usable}
-use Rattle.planner.specs.Plan.{id_field, Range, Plan, scan, by_index}
+use Rattle.plan_model.specs.Usable.{Bound, Usable}
+use Rattle.plan_model.specs.Plan.{id_field, Range, Plan, scan, by_index}
 use Rattle.planner.specs.declared.usable.Bound.{Bound as BoundOf}
 use Rattle.planner.specs.declared.usable.Usable.{Usable as Found}
 use Rattle.planner.specs.declared.field.Field.{Field as FieldOf}

@@ -4,8 +4,8 @@ ghost use Rattle.std.specs.Prelude.{◌≡◌, ◌≤◌, length, drop, codes, o
 ghost use Rattle.sort.specs.SortKeys.{field_of as sort_field_of};
 ghost use Rattle.filter.specs.View.{condition_of};
 ghost use Rattle.path.specs.Parts.{parts_of};
-ghost use Rattle.planner.specs.Usable.{is_path, usable_there, usable};
-ghost use Rattle.planner.specs.Plan.{fields_of, is_direction, is_sorted_at, asked_of, asked_next, sorts_as};
+ghost use Rattle.plan_model.specs.Usable.{is_path, usable_there, usable};
+ghost use Rattle.plan_model.specs.Plan.{fields_of, is_direction, is_sorted_at, asked_of, asked_next, sorts_as};
 ghost use Rattle.planner.specs.View.{usable_of, field_of, index_of};
 
 use crate::usable::{Usable, all_usable};

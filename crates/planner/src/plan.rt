@@ -1,8 +1,8 @@
 //! The choice of a plan, and its text.
 
 ghost use Rattle.std.specs.Prelude.{◌≡◌, ◌≤◌, IfOk, length, string_bytes};
-ghost use Rattle.planner.specs.Plan.{choose};
-ghost use Rattle.planner.specs.Explaining.{index_name, range_word, sort_word, in_words, range_text, explain_text};
+ghost use Rattle.plan_model.specs.Plan.{choose};
+ghost use Rattle.plan_model.specs.Explaining.{index_name, range_word, sort_word, in_words, range_text, explain_text};
 ghost use Rattle.planner.specs.View.{range_of, plan_of};
 
 use crate::range::IndexRange;

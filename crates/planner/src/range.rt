@@ -1,7 +1,7 @@
 //! The range that a filter gives in an index.
 
 ghost use Rattle.std.specs.Prelude.{◌≡◌, ◌≤◌, count_by, is_some, length, option_map};
-ghost use Rattle.planner.specs.Plan.{fields_of, is_multi, leading, upper_beside, range_in, has_end, rank};
+ghost use Rattle.plan_model.specs.Plan.{fields_of, is_multi, leading, upper_beside, range_in, has_end, rank};
 ghost use Rattle.planner.specs.View.{bound_of, index_of, leading_of, range_of};
 
 use crate::field::{asked_at, sorts_as};

@@ -7,7 +7,7 @@ ghost use Rattle.value_order.specs.KeyText.{complement, directed_text};
 ghost use Rattle.value_order.specs.Order.{value as key_value};
 ghost use Rattle.planner.specs.KeyRange.{front_text};
 ghost use Rattle.planner.specs.KeySpan.{end_text, least_text, first_key, last_key};
-ghost use Rattle.planner.specs.Plan.{fields_of};
+ghost use Rattle.plan_model.specs.Plan.{fields_of};
 ghost use Rattle.planner.specs.View.{bound_of, index_of, values_of, range_of};
 
 use crate::field::field_at;

@@ -3,7 +3,7 @@
 ghost use Rattle.std.specs.Prelude.{◌≡◌, option_map};
 ghost use Rattle.bson.specs.View.{tree};
 ghost use Rattle.filter.specs.View.{condition_of};
-ghost use Rattle.planner.specs.Usable.{nothing, or, no_array, bound_at, range_of, usable_in, all_usable};
+ghost use Rattle.plan_model.specs.Usable.{nothing, or, no_array, bound_at, range_of, usable_in, all_usable};
 ghost use Rattle.planner.specs.View.{bound_of, usable_of};
 
 use bson::Value;

@@ -11,18 +11,18 @@ use Rattle.filter.specs.Matches.{matches}
 use Rattle.sort.specs.Sort.{SortField, order}
 use Rattle.value_order.specs.Order.{bytes_cmp}
 use Rattle.index.specs.Definition.{Definition}
-use Rattle.entries.specs.LawfulState.{IsKept, IsLawfulState}
-use Rattle.entries.specs.State.{Collection, key_of}
-use Rattle.entries.specs.StateReads.{find_document}
+use Rattle.entry_model.specs.LawfulState.{IsKept, IsLawfulState}
+use Rattle.entry_model.specs.State.{Collection, key_of}
+use Rattle.entry_model.specs.StateReads.{find_document}
 use Rattle.entries.specs.declared.catalogue_reading.Catalogued.{Catalogued}
-use Rattle.entries.proofs.FoundLawLemmas.{found_collection}
+use Rattle.entry_model.proofs.FoundLawLemmas.{found_collection}
 use Rattle.collections.specs.IndexTexts.{AreFirstTexts, Indexed, IsNumberedIndex}
 use Rattle.planner.specs.FirstIds.{AreAllOf, AreFirstReadFrom, LeadToFirst}
 use Rattle.planner.specs.FoundIds.{ids_of}
 use Rattle.planner.specs.IdLaws.{AreIdTexts, found_by, with_found}
 use Rattle.planner.specs.KeyRange.{IsSpellable}
 use Rattle.planner.specs.KeySpan.{first_key, last_key}
-use Rattle.planner.specs.Plan.{Range, fields_of, range_in}
+use Rattle.plan_model.specs.Plan.{Range, fields_of, range_in}
 use Rattle.planner.proofs.AnswerLemmas.{kept_are_noted}
 use Rattle.planner.proofs.FirstIdLemmas.{first_ids_lead}
 use Rattle.planner.proofs.RisingLemmas.{pairs_of}

@@ -15,10 +15,10 @@ use Rattle.filter.specs.IdPaths.{is_id}
 use Rattle.filter.specs.Matches.{matches}
 use Rattle.value_order.specs.Order.{compare, key_cmp, value}
 use Rattle.sort.specs.Sort.{SortField, compare_by, in_direction, insert_in_order, key_among, keys_of, order, put_before, sort_key}
-use Rattle.entries.specs.LawfulState.{IsLawfulState, IsRising}
-use Rattle.entries.specs.State.{Collection, key_of}
+use Rattle.entry_model.specs.LawfulState.{IsLawfulState, IsRising}
+use Rattle.entry_model.specs.State.{Collection, key_of}
 use Rattle.entries.specs.declared.catalogue_reading.Catalogued.{Catalogued}
-use Rattle.entries.proofs.FoundLawLemmas.{found_collection}
+use Rattle.entry_model.proofs.FoundLawLemmas.{found_collection}
 use Rattle.planner.proofs.RisingLemmas.{Below, Rises, rises_filter, rises_of}
 use Rattle.database_model.specs.Find.{matching}
 use Rattle.database_model.specs.Lawful.{IsStored}

@@ -19,7 +19,7 @@ use Rattle.collections.specs.Folding.{documents_within, lies_within}
 use Rattle.database_model.specs.Aggregate.{AreEnough}
 use Rattle.database_model.specs.Lawful.{IsWithin}
 use Rattle.pipelines.specs.View.{pipeline_of}
-use Rattle.entries.specs.State.{key_of}
+use Rattle.entry_model.specs.State.{key_of}
 use Rattle.planner.specs.IdLaws.{with_found}
 use Rattle.queries.specs.Folding.{Needs}
 use Rattle.queries.specs.declared.needed.Needing.{Needing}

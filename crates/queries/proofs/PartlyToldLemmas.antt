@@ -6,9 +6,9 @@ use Rattle.bson.specs.Tree.{Pairs}
 use Rattle.value_order.specs.KeyText.{tree_text}
 use Rattle.filter.specs.Condition.{Conditions}
 use Rattle.index.specs.Changes.{is_among}
-use Rattle.entries.specs.State.{Collection, key_of}
-use Rattle.entries.proofs.KeyOfDocument.{among_test}
-use Rattle.entries.proofs.MemberLemmas.{among_of, contains_of}
+use Rattle.entry_model.specs.State.{Collection, key_of}
+use Rattle.entry_model.proofs.KeyOfDocument.{among_test}
+use Rattle.entry_model.proofs.MemberLemmas.{among_of, contains_of}
 use Rattle.asked_documents.specs.ById.{AreIdsOf, but_not, one_matches}
 use Rattle.walks.proofs.FilterLemmas.{filter_where}
 

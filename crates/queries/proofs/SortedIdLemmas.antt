@@ -18,7 +18,7 @@ use Rattle.value_order.specs.Order.{key_cmp}
 use Rattle.page.specs.History.{History}
 use Rattle.collections.specs.Reading.{ReadsOf}
 use Rattle.collections.specs.State.{State}
-use Rattle.entries.specs.State.{Collection}
+use Rattle.entry_model.specs.State.{Collection}
 use Rattle.entries.specs.declared.catalogue_reading.Catalogued.{Catalogued}
 use Rattle.filter.specs.Condition.{Conditions}
 use Rattle.index.specs.View.{texts_of}

@@ -7,7 +7,7 @@ use Rattle.aggregate_model.specs.Taking.{leading_match, takes}
 use Rattle.filter.specs.Condition.{Conditions}
 use Rattle.filter.specs.Matches.{matches}
 use Rattle.index.specs.Changes.{is_among}
-use Rattle.entries.specs.State.{key_of}
+use Rattle.entry_model.specs.State.{key_of}
 use Rattle.asked_documents.specs.Asking.{AsksMatching}
 use Rattle.asked_documents.specs.ById.{TellIdsBeside, one_matches}
 use Rattle.asked_documents.proofs.SelectsLemmas.{only_at, or_last}

@@ -5,13 +5,13 @@ use Rattle.bson.specs.Tree.{Tree}
 use Rattle.filter.specs.Condition.{Conditions}
 use Rattle.filter.specs.Matches.{matches}
 use Rattle.sort.specs.Sort.{SortField, order}
-use Rattle.entries.specs.State.{Collection}
+use Rattle.entry_model.specs.State.{Collection}
 use Rattle.collections.specs.IndexTexts.{AreFirstTexts, Indexed}
 use Rattle.collections.specs.Reading.{IsNumbered}
 use Rattle.planner.specs.FoundIds.{ids_of}
 use Rattle.planner.specs.IdLaws.{AreIdTexts, found_by}
 use Rattle.planner.specs.KeySpan.{first_key, last_key}
-use Rattle.planner.specs.Plan.{Range}
+use Rattle.plan_model.specs.Plan.{Range}
 
 -- The texts of the `_id`s in the first entries of the index in the range, in the order of the
 -- entries, and whether these are all.

@@ -4,7 +4,7 @@ use Rattle.filter.specs.Condition.{Conditions}
 use Rattle.sort.specs.Sort.{SortField}
 use Rattle.index.specs.Definition.{Definition}
 use Rattle.planner.specs.KeySpan.{first_key}
-use Rattle.planner.specs.Plan.{range_in}
+use Rattle.plan_model.specs.Plan.{range_in}
 use Rattle.walks.specs.InOrder.{IsInOrder}
 use Rattle.queries.specs.declared.index_order.IndexOrder.{IndexOrder}
 

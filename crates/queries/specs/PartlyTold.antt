@@ -1,7 +1,7 @@
 -- Documents of which some are told by their `_id`s, and the others are those that filters match.
 use Rattle.std.specs.Prelude.{Bool, List, map}
 use Rattle.bson.specs.Tree.{Pairs}
-use Rattle.entries.specs.State.{Collection}
+use Rattle.entry_model.specs.State.{Collection}
 use Rattle.entries.specs.declared.catalogue_reading.Catalogued.{Catalogued}
 use Rattle.asked_documents.specs.Asking.{IsAsked}
 use Rattle.asked_documents.specs.ById.{AreIdsOf, but_not}

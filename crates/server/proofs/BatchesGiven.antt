@@ -5,7 +5,7 @@ use Rattle.bson_bytes.specs.declared.fault.BsonFault.{BsonFault}
 use Rattle.path.specs.declared.refusal.Refusal.{Refusal}
 use Rattle.op_msg.specs.Request.{body_of}
 use Rattle.op_msg.specs.declared.fault.FrameFault.{FrameFault}
-use Rattle.entries.specs.State.{Collection}
+use Rattle.entry_model.specs.State.{Collection}
 use Rattle.database_model.specs.CursorLaws.{after_commands}
 use Rattle.database_model.specs.CursorLife.{HasLeft, command, committed, ended as has_ended, undone as was_undone}
 use Rattle.database_model.specs.Step.{Answers, step}

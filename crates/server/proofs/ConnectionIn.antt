@@ -5,7 +5,7 @@ use Rattle.std.specs.Ordering.{nat_cmp}
 use Rattle.std.specs.declared.cmp.Ordering.{Ordering}
 use Rattle.std.specs.declared.cmp.Ordering.TheVariants as orders
 use Rattle.std.proofs.lemmas.Bool.Decides.{nat_tests}
-use Rattle.entries.specs.State.{by_order}
+use Rattle.entry_model.specs.State.{by_order}
 use Rattle.op_msg.specs.Frame.{Frame, front}
 use Rattle.op_msg.specs.declared.fault.FrameFault.{FrameFault}
 use Rattle.server.specs.ServerState.{add_bytes, are_above, are_ascending, drop_connection, feed_connections, find_connection, new_connection}

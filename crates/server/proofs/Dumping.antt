@@ -6,7 +6,7 @@ use Rattle.std.specs.Option.{option_map}
 use Rattle.std.proofs.lemmas.List.{append-nil, map-append, take-append-drop}
 use Rattle.bson.specs.Tree.{Pairs}
 use Rattle.page.specs.History.{History, KeepsWord}
-use Rattle.entries.specs.State.{Collection, find_collection}
+use Rattle.entry_model.specs.State.{Collection, find_collection}
 use Rattle.collections.specs.Walk.{AreNext, IsWalk}
 use Rattle.collections.specs.declared.walk.Walk.{Walk}
 use Rattle.engine.specs.Dump.{BeginsDump, GoesOnDumping, HasFaultCause, WalksThrough}

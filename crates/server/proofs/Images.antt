@@ -8,7 +8,7 @@ use Rattle.page.proofs.Moments.{goes_nowhere, goes_further, started, leaves_furt
 use Rattle.collections.specs.View as views
 use Rattle.collections.proofs.LawLemmas.{leaves_start}
 use Rattle.database_model.specs.World.{World, after_commit, forget}
-use Rattle.entries.specs.State.{Collection}
+use Rattle.entry_model.specs.State.{Collection}
 use Rattle.op_msg.specs.declared.fault.FrameFault.{FrameFault}
 use Rattle.server.specs.Turn.{forget_all}
 use Rattle.opening.specs.Holding.{HoldsCollections}

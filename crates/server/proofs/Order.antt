@@ -4,7 +4,7 @@ use Rattle.std.specs.Prelude.{nat_le, true, false, Bool}
 use Rattle.std.proofs.lemmas.Bool.Decides.{nat_tests}
 use Rattle.page.specs.History.{History, Sector, KeepsWord, IsImage}
 use Rattle.page.specs.Crash.{ExtendsHistory, LeavesOnly}
-use Rattle.entries.specs.State.{Collection}
+use Rattle.entry_model.specs.State.{Collection}
 use Rattle.opening.specs.Holding.{HoldsCollections}
 use Rattle.server.specs.Moment.{TurnEnd, last_collections, LeavesBetween, HoldsEither, LeavesInOrder}
 

@@ -6,7 +6,7 @@ use Rattle.std.proofs.Math.Seq.{drop-length}
 use Rattle.std.specs.Ordering.{nat_cmp}
 use Rattle.std.specs.declared.cmp.Ordering.{Ordering}
 use Rattle.std.specs.declared.cmp.Ordering.TheVariants as orders
-use Rattle.entries.specs.State.{by_order}
+use Rattle.entry_model.specs.State.{by_order}
 use Rattle.server.specs.ServerState.{new_connection, add_bytes, feed_connections, drop_connection, find_connection, shifted, place_in}
 use Rattle.op_msg.specs.declared.fault.FrameFault.{FrameFault}
 use Rattle.server.specs.declared.connection.Connection.{Connection}

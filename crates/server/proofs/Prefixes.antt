@@ -8,7 +8,7 @@ use Rattle.std.proofs.lemmas.Bool.Decides.{nat_tests}
 use Rattle.page.specs.History.{History, now, reads, IsImage}
 use Rattle.roots.specs.declared.opening.OpenFault.{OpenFault}
 use Rattle.roots.specs.declared.opening.OpenFault.TheVariants as faults
-use Rattle.entries.specs.State.{Collection}
+use Rattle.entry_model.specs.State.{Collection}
 use Rattle.collections.proofs.LawLemmas.{holds_one}
 use Rattle.opening.specs.Holding.{HoldsCollections}
 use Rattle.server.specs.ServerState.{ServerState, fed, ended}

@@ -6,7 +6,7 @@ use Rattle.page.specs.History.{History, KeepsWord}
 use Rattle.page.specs.Crash.{ExtendsHistory}
 use Rattle.roots.specs.declared.store.CommitFault.{CommitFault}
 use Rattle.roots.specs.declared.store.CommitFault.TheVariants as faults
-use Rattle.entries.specs.State.{Collection}
+use Rattle.entry_model.specs.State.{Collection}
 use Rattle.database_model.specs.World.{World, are_untouched, after_undo}
 use Rattle.engine.specs.View.{world, turn_start}
 use Rattle.engine.specs.Committing.{CommitsTurn}

@@ -7,7 +7,7 @@ use Rattle.hex.specs.Hex.{encode_lower}
 use Rattle.bson.specs.Spelling.{frame_of, pairs_bytes}
 use Rattle.bson.specs.Tree.{Pairs}
 use Rattle.page.specs.History.{History, KeepsWord}
-use Rattle.entries.specs.State.{Collection, find_collection}
+use Rattle.entry_model.specs.State.{Collection, find_collection}
 use Rattle.collections.specs.Walk.{IsWalk}
 use Rattle.collections.specs.declared.walk.Walk.{Walk}
 use Rattle.engine.specs.Dump.{HasFaultCause}

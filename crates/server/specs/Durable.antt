@@ -5,7 +5,7 @@ use Rattle.page.specs.Crash.{ExtendsHistory, LeavesOnly}
 use Rattle.trusted_disk.specs.Trusting.{trusted_history}
 use Rattle.trusted_disk.specs.declared.disk.TrustedDisk.{TrustedDisk}
 use Rattle.collections.specs.State.{State}
-use Rattle.entries.specs.State.{Collection}
+use Rattle.entry_model.specs.State.{Collection}
 use Rattle.database_model.specs.World.{are_untouched}
 use Rattle.engine.specs.View.{world, turn_start}
 use Rattle.engine.specs.Durable as engines

@@ -2,7 +2,7 @@
 -- had failed and a page was asked for and none was free, and the number of the last commit.
 use Rattle.std.specs.Prelude.{◌⊎◌, ℕ, ◌+◌, Bool, IsTrue, ◌≤◌, List, [], ◌∷◌}
 use Rattle.page.specs.History.{History, IsImage}
-use Rattle.entries.specs.State.{Collection}
+use Rattle.entry_model.specs.State.{Collection}
 use Rattle.opening.specs.Holding.{HoldsCollections}
 use Rattle.server.specs.ServerState.{ServerState}
 

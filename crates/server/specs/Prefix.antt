@@ -6,7 +6,7 @@ use Rattle.std.specs.Prelude.{take, filter, Option, Some, None}
 use Rattle.page.specs.History.{History, KeepsWord, now, reads, LeftSince}
 use Rattle.roots.specs.declared.opening.OpenFault.{OpenFault}
 use Rattle.roots.specs.declared.opening.OpenFault.TheVariants as faults
-use Rattle.entries.specs.State.{Collection}
+use Rattle.entry_model.specs.State.{Collection}
 use Rattle.opening.specs.Holding.{HoldsCollections}
 use Rattle.opening.specs.Refusing.{IsFileRefused}
 use Rattle.server.specs.ServerState.{ServerState}

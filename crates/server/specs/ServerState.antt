@@ -5,7 +5,7 @@ use Rattle.std.specs.Prelude.{Bool, true, false, ◌&&◌, nat_lt, is_some, ℕ,
 use Rattle.std.specs.Prelude.{Option, Some, None, Result, Ok, Err, suc}
 use Rattle.std.specs.Ordering.{nat_cmp}
 use Rattle.database_model.specs.World.{World, forget}
-use Rattle.entries.specs.State.{by_order}
+use Rattle.entry_model.specs.State.{by_order}
 use Rattle.op_msg.specs.declared.fault.FrameFault.{FrameFault}
 use Rattle.server.specs.declared.connection.Connection.{Connection}
 

@@ -32,7 +32,7 @@ use Rattle.command_model.specs.OutcomeLaws.{step_of, passed}
 use Rattle.command_model.specs.Update.{UpdateStatement, IsRead}
 use Rattle.database_model.specs.Documents.{key_of, key_checked}
 use Rattle.database_model.specs.Lawful.{IsStored}
-use Rattle.entries.specs.LawfulState.{IsRising}
+use Rattle.entry_model.specs.LawfulState.{IsRising}
 use Rattle.database_model.specs.Update.{spelled, upsert_document}
 use Rattle.statements.specs.Updating.{IsChange, MayBePut}
 use Rattle.statements.proofs.Checked.{id_first-id_first}

@@ -15,9 +15,9 @@ use Rattle.bson.specs.Tree.{Tree, scalar, document, array, Pairs, no_pairs}
 use Rattle.value_order.specs.Order.{compare}
 use Rattle.value_order.specs.TotalLaws.{compare_total}
 use Rattle.update_model.specs.Stored.{id_name, no_array}
-use Rattle.entries.specs.Documents.{put_document, without_document}
-use Rattle.entries.specs.LawfulState.{IsRising, IsStorable}
-use Rattle.entries.specs.State.{by_order}
+use Rattle.entry_model.specs.Documents.{put_document, without_document}
+use Rattle.entry_model.specs.LawfulState.{IsRising, IsStorable}
+use Rattle.entry_model.specs.State.{by_order}
 use Rattle.database_model.specs.Documents.{key_of, place}
 use Rattle.database_model.specs.Lawful.{IsStored}
 use Rattle.database_model.specs.Places.{IsGap, by_key}

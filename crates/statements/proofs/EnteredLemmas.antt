@@ -5,14 +5,13 @@ use Rattle.std.proofs.lemmas.List.Elements.{All-head, All-tail}
 use Rattle.bson.specs.Tree.{Pairs}
 use Rattle.update_model.specs.Stored.{id_first}
 use Rattle.command_model.specs.OutcomeLaws.{step_of}
-use Rattle.entries.specs.Documents.{put_document}
-use Rattle.entries.specs.Entering.{DocumentWrite, enter_each, entered}
-use Rattle.entries.specs.LawfulState.{IsRising}
-use Rattle.entries.specs.State.{Collection}
-use Rattle.entries.specs.StateReads.{find_document}
-use Rattle.entries.proofs.DocumentPlaces.{IsBetween, IsInstead, placed}
-use Rattle.entries.proofs.EnteringLemmas.{has_entered, stay_with}
-use Rattle.entries.proofs.EnteringSteps.{all_put, some_instead}
+use Rattle.entry_model.specs.Documents.{put_document}
+use Rattle.entry_model.specs.Entering.{DocumentWrite, enter_each, entered}
+use Rattle.entry_model.specs.LawfulState.{IsRising}
+use Rattle.entry_model.specs.State.{Collection}
+use Rattle.entry_model.specs.StateReads.{find_document}
+use Rattle.entry_model.proofs.DocumentPlaces.{IsBetween, IsInstead, placed, all_put, some_instead}
+use Rattle.entry_model.proofs.EnteringLemmas.{has_entered, stay_with}
 use Rattle.database_model.specs.Documents.{checked, insert_all, insert_one, key_of}
 use Rattle.database_model.specs.Lawful.{AreShortIndexes, IsStored}
 use Rattle.statements.specs.WriteLaws.{documents_in}

@@ -14,9 +14,9 @@ use Rattle.outcome.specs.Outcome.{◌>>=◌}
 use Rattle.path.specs.declared.refusal.Refusal.{Refusal}
 use Rattle.update_model.specs.Applying.{apply}
 use Rattle.command_model.specs.Update.{UpdateStatement}
-use Rattle.entries.specs.Documents.{put_document}
-use Rattle.entries.specs.Entering.{DocumentWrite}
-use Rattle.entries.specs.State.{by_order}
+use Rattle.entry_model.specs.Documents.{put_document}
+use Rattle.entry_model.specs.Entering.{DocumentWrite}
+use Rattle.entry_model.specs.State.{by_order}
 use Rattle.database_model.specs.Documents.{key_of}
 use Rattle.database_model.specs.Merging.{Listed, is_meant, listed_to, made_of, none_changed, not_listed, put_each, run_each, run_listed, upsert_listed}
 use Rattle.database_model.specs.Update.{Changed, counted, modified_by}

@@ -5,8 +5,8 @@ use Rattle.std.specs.Str.{bytes_eq}
 use Rattle.bson.specs.Tree.{Pairs}
 use Rattle.value_order.specs.Order.{compare}
 use Rattle.value_order.specs.TotalLaws.{compare_total}
-use Rattle.entries.specs.LawfulState.{IsRising}
-use Rattle.entries.specs.State.{Collection, find_collection}
+use Rattle.entry_model.specs.LawfulState.{IsRising}
+use Rattle.entry_model.specs.State.{Collection, find_collection}
 use Rattle.database_model.specs.Documents.{key_of, place}
 use Rattle.database_model.specs.Lawful.{IsKept, IsStored}
 use Rattle.database_model.specs.World.{documents_of, documents_or_none}

@@ -13,7 +13,7 @@ use Rattle.command_model.specs.OutcomeLaws.{step_of}
 use Rattle.command_model.specs.Update.{UpdateStatement, IsRead}
 use Rattle.database_model.specs.Documents.{key_of}
 use Rattle.database_model.specs.Lawful.{IsStored}
-use Rattle.entries.specs.LawfulState.{IsRising}
+use Rattle.entry_model.specs.LawfulState.{IsRising}
 use Rattle.database_model.specs.Update.{Changed, passed_over, changed_to, update_from}
 use Rattle.statements.proofs.Applied.{kept_key, kept_stored}
 

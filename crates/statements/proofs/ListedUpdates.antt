@@ -6,8 +6,8 @@ use Rattle.outcome.specs.Outcome.{◌>>=◌, or_refused, unless}
 use Rattle.path.specs.declared.refusal.Refusal.{Refusal}
 use Rattle.path.specs.declared.refusal.Refusal.TheVariants as refusals
 use Rattle.command_model.specs.Update.{UpdateStatement}
-use Rattle.entries.specs.State.{Collection, find_collection, put_collection}
-use Rattle.entries.proofs.FoundLawLemmas.{finds_put, put_twice}
+use Rattle.entry_model.specs.State.{Collection, find_collection, put_collection}
+use Rattle.entry_model.proofs.FoundLawLemmas.{finds_put, put_twice}
 use Rattle.database_model.specs.Documents.{key_of, place}
 use Rattle.database_model.specs.Merging.{Listed, none_changed, listed_to, with_listed, upsert_listed, run_listed, run_each, makes_any, listed_in}
 use Rattle.database_model.specs.Update.{counted, Changed, update_from, changed_in, Updated, not_changed, updated_to, upsert_document, upserted_entry}

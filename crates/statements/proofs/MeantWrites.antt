@@ -13,8 +13,8 @@ use Rattle.path.specs.declared.refusal.Refusal.{Refusal}
 use Rattle.update_model.specs.Applying.{apply}
 use Rattle.update_model.specs.Update.{Update as Change}
 use Rattle.command_model.specs.Update.{UpdateStatement, IsRead}
-use Rattle.entries.specs.LawfulState.{IsRising}
-use Rattle.entries.specs.StateReads.{find_document}
+use Rattle.entry_model.specs.LawfulState.{IsRising}
+use Rattle.entry_model.specs.StateReads.{find_document}
 use Rattle.database_model.specs.Documents.{key_of}
 use Rattle.database_model.specs.Lawful.{IsStored}
 use Rattle.database_model.specs.Merging.{is_updated, made_of, made_by, has_key_of, is_meant, Listed, run_listed}
@@ -24,7 +24,7 @@ use Rattle.statements.proofs.MeantDeletions.{or_first, or_second}
 use Rattle.statements.proofs.MergingLemmas.{Marked, meant, other, all_of, meant_of, others_of, Each, NoneIs, Each-map, Ascends, ascends, Untied, mark, mark_all}
 use Rattle.statements.proofs.MergingLemmas.{mark_meant, marked_all, marked_meant, meant_untied, put_ascends, put_marked}
 use Rattle.statements.proofs.WriteSteps.{updated_stored}
-use Rattle.entries.specs.Entering.{DocumentWrite}
+use Rattle.entry_model.specs.Entering.{DocumentWrite}
 use Rattle.statements.specs.Updating.{HaveOld, news_of, seen}
 use Rattle.statements.specs.WriteLaws.{documents_in}
 use Rattle.database_model.specs.Writes.{change_writes, changes_of, made_write, statement_writes, unless_refused, updated_by, writes_from, writes_of}

@@ -6,8 +6,8 @@ use Rattle.std.specs.declared.cmp.Ordering.TheVariants as orders
 use Rattle.std.proofs.lemmas.Bool.{cases_eq}
 use Rattle.std.proofs.lemmas.Grind.{get_or-set_at}
 use Rattle.std.proofs.lemmas.List.{get_or_default, get_or-set_other, length-set}
-use Rattle.entries.specs.State.{Collection}
-use Rattle.entries.specs.LawfulState.{AreNamedApart}
+use Rattle.entry_model.specs.State.{Collection}
+use Rattle.entry_model.specs.LawfulState.{AreNamedApart}
 use Rattle.database_model.specs.Places.{collection_at, no_collection}
 
 pub apart_set : (cs : List Collection) (i : ℕ) (c : Collection) → i < length cs → c.name ≡ (collection_at cs i).name → AreNamedApart cs

@@ -40,7 +40,7 @@ use Rattle.command_model.specs.ListIndexes.{read_list_indexes}
 use Rattle.command_model.specs.OutcomeLaws.{step_of, passed}
 use Rattle.command_model.specs.Ping.{read_ping}
 use Rattle.command_model.specs.Update.{UpdateStatement, Update, IsRead, read_update_command}
-use Rattle.entries.specs.State.{find_collection}
+use Rattle.entry_model.specs.State.{find_collection}
 use Rattle.database_model.specs.Documents.{key_of, key_checked, place}
 use Rattle.database_model.specs.Refusals.{int, total, ok_reply}
 use Rattle.database_model.specs.Update.{Changed, judged, not_changed, not_updated, run_statement, run_statements, spelled, update_from, update_reply}

@@ -8,8 +8,8 @@ use Rattle.outcome.specs.Outcome.{◌>>=◌, Fails}
 use Rattle.path.specs.declared.refusal.Refusal.{Refusal}
 use Rattle.path.specs.declared.refusal.Refusal.TheVariants as refusals
 use Rattle.command_model.specs.Update.{UpdateStatement}
-use Rattle.entries.specs.LawfulState.{IsRising, IsStorable}
-use Rattle.entries.specs.Entering.{DocumentWrite}
+use Rattle.entry_model.specs.LawfulState.{IsRising, IsStorable}
+use Rattle.entry_model.specs.Entering.{DocumentWrite}
 use Rattle.database_model.specs.Lawful.{IsStored, IsWithin}
 use Rattle.database_model.specs.Merging.{Listed, not_listed, put_each, run_each, run_listed}
 use Rattle.statements.specs.Updating.{AreWritten, HasWritten, HaveOld, IsRan, IsRun, IsRunOf, listed_of, MayBePut, news_of, RunsOn, seen, written, Wrote}

@@ -6,7 +6,7 @@ use Rattle.outcome.specs.Outcome.{◌>>=◌, Fails, or_refused}
 use Rattle.path.specs.declared.refusal.Refusal.{Refusal}
 use Rattle.path.specs.declared.refusal.Refusal.TheVariants as refusals
 use Rattle.command_model.specs.Update.{UpdateStatement}
-use Rattle.entries.specs.Entering.{DocumentWrite}
+use Rattle.entry_model.specs.Entering.{DocumentWrite}
 use Rattle.database_model.specs.Documents.{key_of, place}
 use Rattle.database_model.specs.Lawful.{IsStored}
 use Rattle.database_model.specs.Merging.{Listed, one_or_none, upsert_listed, with_listed}

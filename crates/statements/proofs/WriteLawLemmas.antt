@@ -15,7 +15,7 @@ use Rattle.update_model.specs.Update.{Update as Change}
 use Rattle.update_model.specs.Applying.{apply}
 use Rattle.command_model.specs.OutcomeLaws.{step_of}
 use Rattle.command_model.specs.Update.{UpdateStatement, IsRead}
-use Rattle.entries.specs.Entering.{DocumentWrite}
+use Rattle.entry_model.specs.Entering.{DocumentWrite}
 use Rattle.database_model.specs.Documents.{key_of, place}
 use Rattle.database_model.specs.Lawful.{IsStored}
 use Rattle.database_model.specs.Merging.{Listed, listed_to, made_of, none_changed, not_listed, one_or_none, run_each, run_listed, upsert_listed, with_listed}

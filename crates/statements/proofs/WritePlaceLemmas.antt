@@ -20,11 +20,11 @@ use Rattle.update_model.specs.Update.{Update as Change}
 use Rattle.update_model.specs.Applying.{apply}
 use Rattle.command_model.specs.OutcomeLaws.{step_of}
 use Rattle.command_model.specs.Update.{UpdateStatement, IsRead}
-use Rattle.entries.specs.Documents.{put_document}
-use Rattle.entries.specs.LawfulState.{IsRising}
-use Rattle.entries.specs.State.{by_order}
-use Rattle.entries.specs.StateReads.{find_document}
-use Rattle.entries.specs.Entering.{DocumentWrite}
+use Rattle.entry_model.specs.Documents.{put_document}
+use Rattle.entry_model.specs.LawfulState.{IsRising}
+use Rattle.entry_model.specs.State.{by_order}
+use Rattle.entry_model.specs.StateReads.{find_document}
+use Rattle.entry_model.specs.Entering.{DocumentWrite}
 use Rattle.database_model.specs.Documents.{key_of, place}
 use Rattle.database_model.specs.Lawful.{IsStored}
 use Rattle.database_model.specs.Merging.{Listed, made_of, none_changed, not_listed, one_or_none, put_each, run_each, run_listed}

@@ -5,7 +5,7 @@ use Rattle.std.specs.List.{filter, position}
 use Rattle.bson.specs.Tree.{Pairs, no_pairs}
 use Rattle.filter.specs.Matches.{matches}
 use Rattle.command_model.specs.Delete.{Deletion}
-use Rattle.entries.specs.Documents.{without_document}
+use Rattle.entry_model.specs.Documents.{without_document}
 use Rattle.database_model.specs.Delete.{after_deletion}
 use Rattle.database_model.specs.Documents.{key_of}
 

@@ -7,7 +7,7 @@ use Rattle.command_model.specs.Update.{Update}
 use Rattle.database_model.specs.Refusals.{ok_reply}
 use Rattle.database_model.specs.Update.{Updated, not_updated, run_all, run_statements, spelled}
 use Rattle.database_model.specs.Update.{update_reply}
-use Rattle.entries.specs.State.{Collection}
+use Rattle.entry_model.specs.State.{Collection}
 
 -- ---- how few bytes of a message spell a field
 

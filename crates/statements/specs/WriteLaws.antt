@@ -5,10 +5,10 @@ use Rattle.bson.specs.Tree.{Pairs}
 use Rattle.filter.specs.Matches.{matches}
 use Rattle.update_model.specs.Applying.{apply}
 use Rattle.command_model.specs.Update.{UpdateStatement, IsRead}
-use Rattle.entries.specs.Documents.{put_document}
-use Rattle.entries.specs.LawfulState.{IsRising}
-use Rattle.entries.specs.StateReads.{find_document}
-use Rattle.entries.specs.Entering.{DocumentWrite}
+use Rattle.entry_model.specs.Documents.{put_document}
+use Rattle.entry_model.specs.LawfulState.{IsRising}
+use Rattle.entry_model.specs.StateReads.{find_document}
+use Rattle.entry_model.specs.Entering.{DocumentWrite}
 use Rattle.database_model.specs.Documents.{key_of}
 use Rattle.database_model.specs.Lawful.{IsStored}
 use Rattle.database_model.specs.Merging.{is_meant, Listed, not_listed, put_each, run_each}

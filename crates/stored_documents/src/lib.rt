@@ -6,7 +6,7 @@ ghost use Rattle.std.specs.Option.{unwrap_or};
 ghost use Rattle.bson.specs.Lawful.{IsDocument};
 ghost use Rattle.bson.specs.Tree.{scalar, null};
 ghost use Rattle.bson.specs.View.{tree};
-ghost use Rattle.entries.specs.LawfulState.{IsStorable};
+ghost use Rattle.entry_model.specs.LawfulState.{IsStorable};
 ghost use Rattle.database_model.specs.Documents.{key_of, checked};
 ghost use Rattle.update_model.specs.Stored.{id_first};
 ghost use Rattle.value_order.specs.Order.{compare};

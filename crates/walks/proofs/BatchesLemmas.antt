@@ -12,7 +12,7 @@ use Rattle.value_order.specs.KeyText.{tree_text}
 use Rattle.filter.specs.Condition.{Conditions}
 use Rattle.filter.specs.Matches.{matches}
 use Rattle.projection.specs.Projection.{project}
-use Rattle.entries.specs.State.{key_of}
+use Rattle.entry_model.specs.State.{key_of}
 use Rattle.database_model.specs.Find.{limited, matching, window}
 use Rattle.replies.specs.OpenBatch.{HasGiven, IsOffered, IsOpen, has_room}
 use Rattle.replies.specs.declared.open_batch.OpenBatch.{OpenBatch}

@@ -19,7 +19,7 @@ use Rattle.page.specs.History.{History}
 use Rattle.tree_model.specs.Keys.{is_within}
 use Rattle.btree.specs.declared.folding.Bounds.{Bounds}
 use Rattle.path.specs.declared.refusal.Refusal.{Refusal}
-use Rattle.entries.specs.State.{key_of}
+use Rattle.entry_model.specs.State.{key_of}
 use Rattle.index.specs.View.{texts_of}
 use Rattle.collections.specs.Folding.{IsFolded, documents_within, lies_within}
 use Rattle.collections.specs.Reading.{IsNumbered, ReadsOf}

@@ -3,7 +3,7 @@ use Rattle.std.proofs.Common.{◌≡◌, inl, inr, suc, Bool, true, false, List,
 use Rattle.std.specs.Prelude.{◌&&◌, ◌≤◌, Contains, cond}
 use Rattle.std.specs.List.{filter}
 use Rattle.bson.specs.Tree.{Pairs}
-use Rattle.entries.proofs.MemberLemmas.{Among}
+use Rattle.entry_model.proofs.MemberLemmas.{Among}
 use Rattle.planner.proofs.RisingLemmas.{filter_among}
 use Rattle.planner.proofs.UsableLemmas.{and_first, and_second}
 

@@ -27,10 +27,10 @@ use Rattle.database_model.specs.Lawful.{IsStored, IsWithin}
 use Rattle.database_model.specs.Refusals.{ok_reply}
 use Rattle.filter.specs.Matches.{matches}
 use Rattle.projection.specs.Projection.{project}
-use Rattle.entries.specs.LawfulState.{IsLawfulState, IsRising, IsStorable}
-use Rattle.entries.specs.State.{Collection}
+use Rattle.entry_model.specs.LawfulState.{IsLawfulState, IsRising, IsStorable}
+use Rattle.entry_model.specs.State.{Collection}
 use Rattle.entries.specs.declared.catalogue_reading.Catalogued.{Catalogued}
-use Rattle.entries.proofs.FoundLawLemmas.{found_collection}
+use Rattle.entry_model.proofs.FoundLawLemmas.{found_collection}
 use Rattle.replies.specs.OpenBatch.{HasGiven}
 use Rattle.replies.specs.View.{batch_name}
 use Rattle.asked_documents.specs.Asking.{IsAsked, IsAskedIn}

@@ -14,11 +14,11 @@ use Rattle.tree_model.specs.Keys.{is_within, key_cmp}
 use Rattle.btree.specs.declared.folding.Bounds.{Bounds}
 use Rattle.filter.specs.Condition.{Conditions}
 use Rattle.filter.specs.Matches.{matches}
-use Rattle.entries.specs.LawfulState.{IsStorable}
+use Rattle.entry_model.specs.LawfulState.{IsStorable}
 use Rattle.entries.specs.OtherKeys.{IsEndOf}
-use Rattle.entries.specs.State.{key_of}
+use Rattle.entry_model.specs.State.{key_of}
 use Rattle.entries.specs.declared.catalogue_reading.Catalogued.{Catalogued}
-use Rattle.entries.proofs.FoundLawLemmas.{found_collection}
+use Rattle.entry_model.proofs.FoundLawLemmas.{found_collection}
 use Rattle.collections.specs.Folding.{IsFolded, documents_within}
 use Rattle.collections.specs.Reading.{IsNumbered, ReadsOf}
 use Rattle.collections.specs.State.{State}
@@ -28,8 +28,8 @@ use Rattle.update_model.specs.Stored.{no_array as no_list}
 use Rattle.planner.specs.IdRange.{HasIdBetween, HasPlainId}
 use Rattle.planner.specs.KeyRange.{IsSpellable, place_by}
 use Rattle.planner.specs.KeySpan.{first_key, last_key}
-use Rattle.planner.specs.Plan.{Range, fields_of, range_in}
-use Rattle.planner.specs.Usable.{no_array}
+use Rattle.plan_model.specs.Plan.{Range, fields_of, range_in}
+use Rattle.plan_model.specs.Usable.{no_array}
 use Rattle.planner.proofs.IdRangeLemmas.{id_range_selects}
 use Rattle.asked_documents.specs.Asking.{IsAsked, AsksMatching}
 use Rattle.walks.specs.IdRange.{IsIdRange, IsWalked, PassWithin, has_id_within}

@@ -24,11 +24,11 @@ use Rattle.index.specs.Definition.{Definition}
 use Rattle.index.specs.IndexKeys.{index_keys, is_multikey}
 use Rattle.index.specs.KeyTexts.{ascending_set, encoded_keys, key_bytes}
 use Rattle.index.proofs.OneKeyLaws.{one_key}
-use Rattle.entries.specs.LawfulState.{IsRising, IsStorable}
-use Rattle.entries.specs.State.{key_of}
-use Rattle.entries.specs.StateReads.{find_document}
-use Rattle.entries.proofs.MemberLemmas.{Among, among_each, among_flat, among_image, among_map, among_of, contains_of, of_all}
-use Rattle.entries.proofs.ReadLaws.{document_some}
+use Rattle.entry_model.specs.LawfulState.{IsRising, IsStorable}
+use Rattle.entry_model.specs.State.{key_of}
+use Rattle.entry_model.specs.StateReads.{find_document}
+use Rattle.entry_model.proofs.MemberLemmas.{Among, among_each, among_flat, among_image, among_map, among_of, contains_of, of_all}
+use Rattle.entry_model.proofs.DocumentPlaces.{document_some}
 use Rattle.collections.proofs.BehindLemmas.{same_front}
 use Rattle.planner.specs.AnswerLaws.{IsNotedFor, answer_cmp}
 use Rattle.planner.specs.FirstIds.{AreAllOf, AreFirstReadFrom, LeadToFirst}
@@ -36,7 +36,7 @@ use Rattle.planner.specs.FoundIds.{ids_of}
 use Rattle.planner.specs.KeyRange.{place_by}
 use Rattle.planner.specs.KeyScan.{id_text}
 use Rattle.planner.specs.KeySpan.{first_key, last_key}
-use Rattle.planner.specs.Plan.{range_in, sorts_as}
+use Rattle.plan_model.specs.Plan.{range_in, sorts_as}
 use Rattle.planner.specs.RangeReading.{AreReadFrom, IsEntryText, LiesBetween}
 use Rattle.planner.proofs.AnswerLemmas.{sorts_to_answer}
 use Rattle.planner.proofs.FirstIdLemmas.{first_ids_lead}

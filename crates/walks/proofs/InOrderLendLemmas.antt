@@ -14,12 +14,12 @@ use Rattle.path.specs.declared.refusal.Refusal.{Refusal}
 use Rattle.path.specs.declared.refusal.Refusal.TheVariants as refusals
 use Rattle.index.specs.Definition.{Definition}
 use Rattle.index.specs.KeyTexts.{encoded_keys}
-use Rattle.entries.specs.LawfulState.{IsKept, IsRising, IsStorable}
-use Rattle.entries.specs.State.{Collection, key_of}
-use Rattle.entries.specs.StateReads.{find_document}
-use Rattle.entries.proofs.EntryLemmas.{id_is_key}
-use Rattle.entries.proofs.FoundLawLemmas.{found_collection, found_document}
-use Rattle.entries.proofs.MemberLemmas.{Among, among_back, among_of, contains_of, of_all}
+use Rattle.entry_model.specs.LawfulState.{IsKept, IsRising, IsStorable}
+use Rattle.entry_model.specs.State.{Collection, key_of}
+use Rattle.entry_model.specs.StateReads.{find_document}
+use Rattle.entry_model.proofs.LawfulParts.{id_is_key}
+use Rattle.entry_model.proofs.FoundLawLemmas.{found_collection, found_document}
+use Rattle.entry_model.proofs.MemberLemmas.{Among, among_back, among_of, contains_of, of_all}
 use Rattle.collections.specs.Calls.{ExtendsTurn, HasReadCause, IsUnchanged}
 use Rattle.collections.specs.Reading.{IsPlaceOf, stored_at}
 use Rattle.collections.specs.Standing.{HasState}

@@ -12,9 +12,9 @@ use Rattle.path.specs.declared.refusal.Refusal.{Refusal}
 use Rattle.path.specs.declared.refusal.Refusal.TheVariants as refusals
 use Rattle.index.specs.Definition.{Definition}
 use Rattle.index.specs.View.{texts_of}
-use Rattle.entries.specs.LawfulState.{IsKept, IsLawfulState}
-use Rattle.entries.specs.State.{Collection}
-use Rattle.entries.proofs.FoundLawLemmas.{found_collection}
+use Rattle.entry_model.specs.LawfulState.{IsKept, IsLawfulState}
+use Rattle.entry_model.specs.State.{Collection}
+use Rattle.entry_model.proofs.FoundLawLemmas.{found_collection}
 use Rattle.collections.specs.Calls.{ExtendsTurn, HasReadCause, IsUnchanged}
 use Rattle.collections.specs.IndexTexts.{AreReadNext, Indexed, IsNumberedIndex}
 use Rattle.collections.specs.Standing.{HasState}

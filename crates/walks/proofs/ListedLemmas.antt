@@ -12,11 +12,11 @@ use Rattle.pager.specs.declared.version.Version.{Version}
 use Rattle.path.specs.declared.refusal.Refusal.{Refusal}
 use Rattle.path.specs.declared.refusal.Refusal.TheVariants as refusals
 use Rattle.projection.specs.Projection.{Projection, project}
-use Rattle.entries.specs.LawfulState.{IsKept, IsLawfulState, IsStorable}
-use Rattle.entries.specs.State.{Collection, key_of}
-use Rattle.entries.specs.StateReads.{find_document}
-use Rattle.entries.proofs.EntryLemmas.{id_is_key}
-use Rattle.entries.proofs.FoundLawLemmas.{found_collection, found_document}
+use Rattle.entry_model.specs.LawfulState.{IsKept, IsLawfulState, IsStorable}
+use Rattle.entry_model.specs.State.{Collection, key_of}
+use Rattle.entry_model.specs.StateReads.{find_document}
+use Rattle.entry_model.proofs.LawfulParts.{id_is_key}
+use Rattle.entry_model.proofs.FoundLawLemmas.{found_collection, found_document}
 use Rattle.collections.specs.Calls.{ExtendsTurn, HasReadCause, IsUnchanged}
 use Rattle.collections.specs.Reading.{IsPlaceOf, Place, stored_at}
 use Rattle.collections.specs.Standing.{HasState}

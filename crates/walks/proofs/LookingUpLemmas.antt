@@ -11,14 +11,14 @@ use Rattle.path.specs.declared.refusal.Refusal.TheVariants as refusals
 use Rattle.value_order.specs.KeyText.{tree_text}
 use Rattle.value_order.specs.Laws.{IsKey}
 use Rattle.value_order.specs.Order.{value}
-use Rattle.entries.specs.State.{Collection}
-use Rattle.entries.specs.StateReads.{find_document}
+use Rattle.entry_model.specs.State.{Collection}
+use Rattle.entry_model.specs.StateReads.{find_document}
 use Rattle.index.specs.View.{texts_of}
-use Rattle.entries.proofs.FoundLawLemmas.{found_collection}
+use Rattle.entry_model.proofs.FoundLawLemmas.{found_collection}
 use Rattle.planner.specs.IdLaws.{AreIdTexts, found_by, with_found}
 use Rattle.planner.proofs.IdLemmas.{finds_by_ids}
 use Rattle.collections.specs.Calls.{ExtendsTurn, IsUnchanged}
-use Rattle.entries.specs.LawfulState.{IsLawfulState}
+use Rattle.entry_model.specs.LawfulState.{IsLawfulState}
 use Rattle.collections.specs.Reading.{IsNumbered, IsPlaceOf, Place, ReadsOf, stored_at}
 use Rattle.collections.specs.Standing.{HasState, IsTurnOf}
 use Rattle.collections.specs.State.{State}

@@ -21,10 +21,10 @@ use Rattle.projection.specs.Projection.{project}
 use Rattle.sort.specs.Sort.{SortField, compare_by, order}
 use Rattle.sort.specs.SortLaws.{sorted-permuted}
 use Rattle.index.specs.Definition.{Definition}
-use Rattle.entries.specs.LawfulState.{IsKept}
-use Rattle.entries.specs.State.{Collection, key_of}
-use Rattle.entries.specs.StateReads.{find_document}
-use Rattle.entries.proofs.MemberLemmas.{Among, among_append, among_back, among_front, among_of, contains_of, of_all}
+use Rattle.entry_model.specs.LawfulState.{IsKept}
+use Rattle.entry_model.specs.State.{Collection, key_of}
+use Rattle.entry_model.specs.StateReads.{find_document}
+use Rattle.entry_model.proofs.MemberLemmas.{Among, among_append, among_back, among_front, among_of, contains_of, of_all}
 use Rattle.collections.specs.IndexTexts.{AreNextTexts, AreTextsBelow, Indexed, IsTextFrom}
 use Rattle.planner.specs.AnswerLaws.{IsNotedFor}
 use Rattle.planner.specs.KeyScan.{id_text}

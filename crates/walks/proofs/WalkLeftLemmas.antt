@@ -24,9 +24,9 @@ use Rattle.filter.specs.Matches.{matches}
 use Rattle.projection.specs.Projection.{Projection, project}
 use Rattle.projection.specs.ProjectionLaws.{project_no_larger}
 use Rattle.sort.specs.Sort.{order}
-use Rattle.entries.specs.LawfulState.{IsRising, IsStorable}
-use Rattle.entries.specs.State.{key_of}
-use Rattle.entries.proofs.EntryLemmas.{id_is_key}
+use Rattle.entry_model.specs.LawfulState.{IsRising, IsStorable}
+use Rattle.entry_model.specs.State.{key_of}
+use Rattle.entry_model.proofs.LawfulParts.{id_is_key}
 use Rattle.planner.proofs.RisingLemmas.{Below, Rises, rises_of, rises_filter}
 use Rattle.database_model.specs.Find.{limited, matching, query_result, window}
 use Rattle.database_model.specs.Lawful.{IsStored, IsWithin}

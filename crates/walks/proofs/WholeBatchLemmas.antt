@@ -8,10 +8,10 @@ use Rattle.collections.specs.Reading.{ReadsOf}
 use Rattle.collections.specs.State.{State}
 use Rattle.collections.specs.View.{is_stopped}
 use Rattle.filter.specs.Matches.{matches}
-use Rattle.entries.specs.LawfulState.{IsLawfulState}
-use Rattle.entries.specs.State.{Collection}
+use Rattle.entry_model.specs.LawfulState.{IsLawfulState}
+use Rattle.entry_model.specs.State.{Collection}
 use Rattle.entries.specs.declared.catalogue_reading.Catalogued.{Catalogued}
-use Rattle.entries.proofs.FoundLawLemmas.{found_collection}
+use Rattle.entry_model.proofs.FoundLawLemmas.{found_collection}
 use Rattle.walks.specs.Batches.{Gives, rest_from}
 use Rattle.asked_documents.specs.ById.{AreIdsOf, AreIdsOfAsked}
 use Rattle.walks.specs.IdRange.{IsWalked}

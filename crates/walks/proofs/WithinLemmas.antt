@@ -10,9 +10,9 @@ use Rattle.bson.specs.Tree.{Pairs}
 use Rattle.page.specs.History.{History, KeepsWord}
 use Rattle.path.specs.declared.refusal.Refusal.TheVariants as refusals
 use Rattle.update_model.specs.Stored.{fault_if, or_else}
-use Rattle.entries.specs.LawfulState.{IsLawfulState, IsStorable}
-use Rattle.entries.specs.State.{Collection}
-use Rattle.entries.proofs.FoundLawLemmas.{found_collection, found_document}
+use Rattle.entry_model.specs.LawfulState.{IsLawfulState, IsStorable}
+use Rattle.entry_model.specs.State.{Collection}
+use Rattle.entry_model.proofs.FoundLawLemmas.{found_collection, found_document}
 use Rattle.collections.specs.Calls.{HasReadCause}
 use Rattle.collections.specs.Reading.{IsPlaceOf, Place, ReadsOf, stored_at}
 use Rattle.collections.specs.Standing.{HasState, IsTurnOf}

@@ -11,8 +11,8 @@ use Rattle.tree_model.specs.Keys.{key_cmp}
 use Rattle.filter.specs.Condition.{Conditions}
 use Rattle.filter.specs.Matches.{matches}
 use Rattle.projection.specs.Projection.{Projection, project}
-use Rattle.entries.specs.LawfulState.{IsStorable}
-use Rattle.entries.specs.State.{key_of}
+use Rattle.entry_model.specs.LawfulState.{IsStorable}
+use Rattle.entry_model.specs.State.{key_of}
 use Rattle.database_model.specs.Cursors.{batch_of, batch_reply, cursor_reply}
 use Rattle.database_model.specs.Find.{matching, window}
 use Rattle.database_model.specs.Lawful.{IsStored, IsWithin}

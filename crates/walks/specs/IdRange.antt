@@ -8,12 +8,12 @@ use Rattle.value_order.specs.KeyText.{tree_text}
 use Rattle.tree_model.specs.Keys.{is_within, key_cmp}
 use Rattle.btree.specs.declared.folding.Bounds.{Bounds}
 use Rattle.filter.specs.Condition.{Conditions}
-use Rattle.entries.specs.LawfulState.{IsStorable}
-use Rattle.entries.specs.State.{key_of}
+use Rattle.entry_model.specs.LawfulState.{IsStorable}
+use Rattle.entry_model.specs.State.{key_of}
 use Rattle.collections.specs.Folding.{IsFolded, documents_within}
 use Rattle.database_model.specs.Lawful.{IsStored}
 use Rattle.planner.specs.KeyRange.{IsSpellable}
-use Rattle.planner.specs.Plan.{Range, range_in}
+use Rattle.plan_model.specs.Plan.{Range, range_in}
 
 -- The range is what the filter gives in the index on `_id`.
 pub record IsIdRange (rs : Conditions) (r : Range) : Type 0 where

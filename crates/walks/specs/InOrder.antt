@@ -14,14 +14,14 @@ use Rattle.sort.specs.Sort.{SortField, order}
 use Rattle.projection.specs.Projection.{Projection, project}
 use Rattle.index.specs.Definition.{Definition}
 use Rattle.index.specs.KeyTexts.{encoded_keys}
-use Rattle.entries.specs.State.{Collection, key_of}
-use Rattle.entries.specs.StateReads.{find_document}
+use Rattle.entry_model.specs.State.{Collection, key_of}
+use Rattle.entry_model.specs.StateReads.{find_document}
 use Rattle.collections.specs.IndexTexts.{Indexed, IsTextFrom}
 use Rattle.collections.specs.Reading.{IsNumbered}
 use Rattle.planner.specs.KeyRange.{IsSpellable}
 use Rattle.planner.specs.KeyScan.{id_text}
 use Rattle.planner.specs.KeySpan.{last_key}
-use Rattle.planner.specs.Plan.{range_in}
+use Rattle.plan_model.specs.Plan.{range_in}
 use Rattle.planner.specs.RangeReading.{LiesBetween}
 use Rattle.database_model.specs.Cursors.{batch_of, batch_reply}
 use Rattle.database_model.specs.Find.{matching, window}

@@ -4,7 +4,7 @@ ghost use Rattle.std.specs.Prelude.{◌≡◌, All, IfOk, IfErr, IfSome, [], ◌
 ghost use Rattle.std.specs.List.{filter};
 ghost use Rattle.collections.specs.Reading.{ReadsOf};
 ghost use Rattle.database_model.specs.Lawful.{IsWithin};
-ghost use Rattle.entries.specs.LawfulState.{IsStorable};
+ghost use Rattle.entry_model.specs.LawfulState.{IsStorable};
 ghost use Rattle.planner.specs.IdLaws.{with_found};
 ghost use Rattle.asked_documents.specs.Asking.{IsAsked};
 ghost use Rattle.walks.specs.Scanning.{Selected};

@@ -6,7 +6,7 @@ ghost use Rattle.bson.specs.Lawful.{pairs_levels};
 ghost use Rattle.bson.specs.Spelling.{Spells};
 ghost use Rattle.bson.specs.Tree.{Pairs};
 ghost use Rattle.database_model.specs.Lawful.{IsWithin};
-ghost use Rattle.entries.specs.LawfulState.{IsStorable};
+ghost use Rattle.entry_model.specs.LawfulState.{IsStorable};
 ghost use Rattle.walks.specs.Within.{is_within};
 
 use bson::{Document, NoMemory};

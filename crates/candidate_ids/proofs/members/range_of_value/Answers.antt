@@ -1,6 +1,6 @@
 use Rattle.std.proofs.Common.{◌≡◌, [], Some, sym, ap, ◌∙◌}
 use Rattle.bson.specs.View.{tree}
-use Rattle.planner.specs.Plan.{Range, range_in}
+use Rattle.plan_model.specs.Plan.{Range, range_in}
 use Rattle.planner.specs.View.{range_of}
 use Rattle.candidate_ids.specs.Alternatives.{begins_with, equal_at}
 use Rattle.candidate_ids.proofs.members.range_of_value.Goals as goal

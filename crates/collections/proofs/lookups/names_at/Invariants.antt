@@ -1,5 +1,5 @@
 use Rattle.std.proofs.Common.{List, take}
-use Rattle.entries.specs.State.{Collection}
+use Rattle.entry_model.specs.State.{Collection}
 use Rattle.collections.specs.Reading.{AreEach, IsNameOf, IsOfCollection}
 use Rattle.collections.proofs.lookups.names_at.Given as goal
 

@@ -1,7 +1,7 @@
 use Rattle.std.proofs.Common.{◌≡◌, ◌<◌, [], length, true, false, sym, ◌∙◌, arith}
 use Rattle.std.proofs.lemmas.List.{get_or_default, length-map}
 use Rattle.collections.specs.declared.lookups.Name.{Name}
-use Rattle.entries.specs.State.{empty_collection, uses}
+use Rattle.entry_model.specs.State.{empty_collection, uses}
 use Rattle.engine.specs.Numbering.{numbered}
 use Rattle.database_model.proofs.Numbers.{searched_all, searched_found, searched_none, searched_one}
 use Rattle.engine.proofs.numbering.least_unused.Goals as goal

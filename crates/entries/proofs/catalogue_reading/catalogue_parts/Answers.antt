@@ -1,5 +1,5 @@
 use Rattle.std.proofs.Common.{[], Some, arith, sym, ◌∙◌}
-use Rattle.entries.specs.StateEntries.{catalogue_value}
+use Rattle.entry_model.specs.StateEntries.{catalogue_value}
 use Rattle.entries.proofs.CatalogueEntries.{same_value}
 use Rattle.entries.proofs.CatalogueReadLaws.{kept_spells, kept_lawful}
 use Rattle.entries.proofs.ReadingLemmas.{same_some}

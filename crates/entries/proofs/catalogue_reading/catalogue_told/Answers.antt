@@ -2,7 +2,7 @@ use Rattle.std.proofs.Common.{◌≡◌, ℕ, ◌≤◌, List, Option, option_ma
 use Rattle.std.specs.Prelude.{IfSome}
 use Rattle.bson.specs.Spelling.{frame_of, pairs_bytes}
 use Rattle.index.specs.Definition.{Definition}
-use Rattle.entries.specs.StateEntries.{catalogue_value}
+use Rattle.entry_model.specs.StateEntries.{catalogue_value}
 use Rattle.entries.specs.declared.catalogue_reading.Catalogued.{Catalogued}
 use Rattle.entries.proofs.CatalogueReadLaws.{told_pair, same_bytes}
 use Rattle.entries.proofs.ReadingLemmas.{not_differing}

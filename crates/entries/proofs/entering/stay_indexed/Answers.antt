@@ -1,4 +1,4 @@
-use Rattle.entries.proofs.EnteringLemmas.{stay_indexed}
+use Rattle.entry_model.proofs.EnteringLemmas.{stay_indexed}
 use Rattle.entries.proofs.entering.stay_indexed.Goals as goal
 
 pub returns : goal.returns

@@ -2,8 +2,8 @@ use Rattle.std.proofs.Common.{◌≡◌, ℕ, List, Some, false, sym, ap, subst,
 use Rattle.std.specs.Prelude.{IsUtf8}
 use Rattle.value_order.specs.KeyText.{tree_text}
 use Rattle.entries.specs.Escaping.{unescaped}
-use Rattle.entries.specs.State.{words}
-use Rattle.entries.specs.StateEntries.{key_under}
+use Rattle.entry_model.specs.State.{words}
+use Rattle.entry_model.specs.StateEntries.{key_under}
 use Rattle.entries.proofs.ReadingLemmas.{name_behind, not_differing}
 use Rattle.entries.proofs.entry_reading.namespace_in.Goals as goal
 

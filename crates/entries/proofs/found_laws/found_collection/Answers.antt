@@ -1,4 +1,4 @@
-use Rattle.entries.proofs.FoundLawLemmas.{found_collection}
+use Rattle.entry_model.proofs.FoundLawLemmas.{found_collection}
 use Rattle.entries.proofs.found_laws.found_collection.Goals as goal
 
 pub returns : goal.returns

@@ -1,4 +1,4 @@
-use Rattle.entries.proofs.EntryLemmas.{id_is_key}
+use Rattle.entry_model.proofs.LawfulParts.{id_is_key}
 use Rattle.entries.proofs.found_laws.stored_is_key.Goals as goal
 
 pub returns : goal.returns

@@ -1,4 +1,4 @@
-use Rattle.entries.proofs.FoundLawLemmas.{without_put}
+use Rattle.entry_model.proofs.FoundLawLemmas.{without_put}
 use Rattle.entries.proofs.found_laws.without_put.Goals as goal
 
 pub returns : goal.returns

@@ -1,6 +1,6 @@
 use Rattle.std.proofs.Common.{ap}
 use Rattle.bson.specs.Tree.{document}
-use Rattle.entries.specs.StateEntries.{definition_items}
+use Rattle.entry_model.specs.StateEntries.{definition_items}
 use Rattle.entries.proofs.CatalogueValues.{item_more, items_end, lawful_more, lawful_end}
 use Rattle.entries.proofs.indexed_entries.definition_values.Goals as goal
 

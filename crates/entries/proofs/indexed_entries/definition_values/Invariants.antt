@@ -3,7 +3,7 @@ use Rattle.std.specs.List.{AllByRecursion}
 use Rattle.bson.specs.Tree.{append_items}
 use Rattle.bson.specs.View.{items_of}
 use Rattle.index.specs.Definition.{IsDefinition}
-use Rattle.entries.specs.StateEntries.{definition_items}
+use Rattle.entry_model.specs.StateEntries.{definition_items}
 use Rattle.entries.proofs.indexed_entries.definition_values.Given as goal
 
 abbrev pub invariant-indexes : goal.invariant-indexes

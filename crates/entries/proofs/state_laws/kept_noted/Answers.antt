@@ -1,4 +1,4 @@
-use Rattle.entries.proofs.KeptSteps.{kept_noted}
+use Rattle.entry_model.proofs.KeptSteps.{kept_noted}
 use Rattle.entries.proofs.state_laws.kept_noted.Goals as goal
 
 pub returns : goal.returns

@@ -1,4 +1,4 @@
-use Rattle.entries.proofs.KeptSteps.{kept_with_index}
+use Rattle.entry_model.proofs.KeptSteps.{kept_with_index}
 use Rattle.entries.proofs.state_laws.kept_with_index.Goals as goal
 
 pub returns : goal.returns

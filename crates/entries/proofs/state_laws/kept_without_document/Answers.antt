@@ -1,4 +1,4 @@
-use Rattle.entries.proofs.KeptSteps.{kept_without_document}
+use Rattle.entry_model.proofs.KeptSteps.{kept_without_document}
 use Rattle.entries.proofs.state_laws.kept_without_document.Goals as goal
 
 pub returns : goal.returns

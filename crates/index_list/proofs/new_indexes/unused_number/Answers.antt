@@ -1,7 +1,7 @@
 use Rattle.std.proofs.Common.{[], length, sym, ◌∙◌, arith}
 use Rattle.std.proofs.lemmas.List.{length-map}
 use Rattle.index.specs.Definition.{Definition}
-use Rattle.entries.specs.State.{empty_collection}
+use Rattle.entry_model.specs.State.{empty_collection}
 use Rattle.database_model.specs.CreateIndexes.{numbered}
 use Rattle.index_list.proofs.NewIndexLemmas.{has_number_is}
 use Rattle.database_model.proofs.Numbers.{searched_all, searched_found, searched_none, searched_one}

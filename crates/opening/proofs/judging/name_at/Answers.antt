@@ -7,8 +7,8 @@ use Rattle.bson.specs.Spelling.{frame_of, pairs_bytes}
 use Rattle.value_order.specs.KeyText.{tree_text}
 use Rattle.tree_model.specs.Keys.{Entry}
 use Rattle.index.specs.Definition.{Definition, IsDefinition}
-use Rattle.entries.specs.State.{words}
-use Rattle.entries.specs.StateEntries.{catalogue_value, key_under}
+use Rattle.entry_model.specs.State.{words}
+use Rattle.entry_model.specs.StateEntries.{catalogue_value, key_under}
 use Rattle.opening.specs.Judging.{are_apart}
 use Rattle.opening.specs.Loading.{named_as}
 use Rattle.opening.proofs.JudgingLemmas.{apart_there, bare_lawful}

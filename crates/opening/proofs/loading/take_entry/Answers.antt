@@ -1,7 +1,7 @@
 use Rattle.std.proofs.Common.{◌≡◌, ◌<◌, ◌^◌, ℕ, List, Some, map, sym, ap, subst, ◌∙◌, ◌≤◌, length}
 use Rattle.btree.specs.Scan.{entry_in}
-use Rattle.entries.specs.State.{Collection}
-use Rattle.entries.specs.StateEntries.{key_under}
+use Rattle.entry_model.specs.State.{Collection}
+use Rattle.entry_model.specs.StateEntries.{key_under}
 use Rattle.bson.specs.Tree.{Pairs}
 use Rattle.opening.specs.Judging.{HasItsKeys, IsStoredAt, index_in, listed_of, numbered}
 use Rattle.opening.specs.Loading.{named_as, progress_of}

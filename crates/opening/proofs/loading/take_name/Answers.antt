@@ -2,7 +2,7 @@ use Rattle.std.proofs.Common.{◌≡◌, [], ◌∷◌, ◌++◌, map, sym, ap, 
 use Rattle.std.specs.Prelude.{OnOk}
 use Rattle.btree.specs.Scan.{entry_in}
 use Rattle.tree_model.proofs.ListLemmas.{map_append}
-use Rattle.entries.specs.State.{put_collection}
+use Rattle.entry_model.specs.State.{put_collection}
 use Rattle.opening.specs.TurnStates.{TurnStates}
 use Rattle.opening.specs.Judging.{IsLoadingAs, IsName}
 use Rattle.opening.specs.Loading.{named_as}

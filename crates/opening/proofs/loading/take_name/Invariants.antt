@@ -1,4 +1,4 @@
-use Rattle.entries.specs.State.{put_collection}
+use Rattle.entry_model.specs.State.{put_collection}
 use Rattle.opening.specs.Loading.{named_as}
 use Rattle.opening.proofs.loading.take_name.Given as goal
 

@@ -1,6 +1,6 @@
 use Rattle.std.proofs.Common.{sym, ap, ◌∙◌}
 use Rattle.std.specs.Prelude.{option_map}
-use Rattle.planner.specs.Plan.{fields_of}
+use Rattle.plan_model.specs.Plan.{fields_of}
 use Rattle.planner.specs.View.{field_of, index_of}
 use Rattle.planner.proofs.FieldLemmas.{asked_here, asked_nowhere}
 use Rattle.planner.proofs.field.asked_at.Goals as goal

@@ -1,5 +1,5 @@
 use Rattle.std.proofs.Common.{sym, ap, ◌∙◌, codes, [], ◌∷◌}
-use Rattle.planner.specs.Usable.{is_path}
+use Rattle.plan_model.specs.Usable.{is_path}
 use Rattle.planner.proofs.FieldLemmas.{not_alone}
 use Rattle.planner.proofs.field.is_id.Goals as goal
 

@@ -2,7 +2,7 @@ use Rattle.std.proofs.Common.{◌≡◌, ℕ, suc, ◌+◌, Bool, List, drop, ma
 use Rattle.std.specs.Prelude.{option_map, ◌&&◌}
 use Rattle.sort.specs.Sort.{SortField}
 use Rattle.sort.specs.SortKeys.{field_of as sort_field_of}
-use Rattle.planner.specs.Plan.{fields_of, sorts_as}
+use Rattle.plan_model.specs.Plan.{fields_of, sorts_as}
 use Rattle.planner.specs.View.{field_of, index_of}
 use Rattle.planner.proofs.FieldLemmas.{sorts_on, sorts_past, sorts_all}
 use Rattle.planner.proofs.field.sorts_as.Goals as goal

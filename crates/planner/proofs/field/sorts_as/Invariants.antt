@@ -1,6 +1,6 @@
 use Rattle.std.proofs.Common.{◌≡◌, drop, map}
 use Rattle.sort.specs.SortKeys.{field_of as sort_field_of}
-use Rattle.planner.specs.Plan.{fields_of, sorts_as}
+use Rattle.plan_model.specs.Plan.{fields_of, sorts_as}
 use Rattle.planner.specs.View.{index_of}
 use Rattle.planner.proofs.field.sorts_as.Given as goal
 

@@ -1,5 +1,5 @@
 use Rattle.std.proofs.Common.{◌≡◌, drop, map, Some, None}
-use Rattle.planner.specs.Plan.{range_in, best}
+use Rattle.plan_model.specs.Plan.{range_in, best}
 use Rattle.planner.specs.View.{range_of}
 use Rattle.planner.proofs.plan.choose.Given as goal
 

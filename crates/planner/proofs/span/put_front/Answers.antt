@@ -1,6 +1,6 @@
 use Rattle.std.proofs.Common.{◌++◌, drop}
 use Rattle.planner.specs.KeyRange.{front_text}
-use Rattle.planner.specs.Plan.{fields_of}
+use Rattle.plan_model.specs.Plan.{fields_of}
 use Rattle.planner.specs.View.{index_of, values_of}
 use Rattle.planner.proofs.SpanTextLemmas.{all_put}
 use Rattle.planner.proofs.span.put_front.Goals as goal

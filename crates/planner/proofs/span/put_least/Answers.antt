@@ -2,7 +2,7 @@ use Rattle.std.proofs.Common.{ℕ, List, ◌++◌, sym, ap, ◌∙◌}
 use Rattle.std.specs.Prelude.{option_map}
 use Rattle.value_order.specs.declared.texts.Direction.{Direction}
 use Rattle.planner.specs.KeySpan.{least_end}
-use Rattle.planner.specs.Plan.{fields_of}
+use Rattle.plan_model.specs.Plan.{fields_of}
 use Rattle.planner.specs.View.{bound_of, field_of, index_of}
 use Rattle.planner.proofs.SpanTextLemmas.{on_ok_more, nothing_put, least_here}
 use Rattle.planner.proofs.span.put_least.Goals as goal

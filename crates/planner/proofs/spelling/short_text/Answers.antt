@@ -1,6 +1,6 @@
 use Rattle.std.proofs.Common.{◌≤◌, length, List, ℕ, subst}
 use Rattle.bson.specs.View.{tree}
-use Rattle.entries.proofs.ShortKeys.{short_is_key}
+use Rattle.entry_model.proofs.ShortKeys.{short_is_key}
 use Rattle.planner.proofs.spelling.short_text.Goals as goal
 
 pub returns-in-Ok : goal.returns-in-Ok

@@ -1,5 +1,5 @@
 use Rattle.std.proofs.Common.{ap, ◌∙◌}
-use Rattle.planner.specs.Usable.{or, usable_in, gather}
+use Rattle.plan_model.specs.Usable.{or, usable_in, gather}
 use Rattle.planner.specs.View.{usable_of}
 use Rattle.filter.specs.View.{conditions_of}
 use Rattle.planner.proofs.GatherLemmas.{gather_more}

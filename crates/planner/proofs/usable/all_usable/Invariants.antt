@@ -1,6 +1,6 @@
 use Rattle.std.proofs.Common.{◌≡◌, drop}
 use Rattle.filter.specs.View.{conditions_of}
-use Rattle.planner.specs.Usable.{or, usable_in, gather}
+use Rattle.plan_model.specs.Usable.{or, usable_in, gather}
 use Rattle.planner.specs.View.{usable_of}
 use Rattle.planner.proofs.usable.all_usable.Given as goal
 

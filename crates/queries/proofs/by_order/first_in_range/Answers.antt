@@ -6,7 +6,7 @@ use Rattle.collections.specs.IndexTexts.{IsNumberedIndex}
 use Rattle.database_model.specs.Find.{matching}
 use Rattle.sort.specs.Sort.{order}
 use Rattle.index.specs.Definition.{Definition}
-use Rattle.entries.specs.State.{Collection}
+use Rattle.entry_model.specs.State.{Collection}
 use Rattle.index.specs.View.{texts_of}
 use Rattle.planner.specs.View.{index_of, range_of}
 use Rattle.asked_documents.specs.Asking.{IsAsked}

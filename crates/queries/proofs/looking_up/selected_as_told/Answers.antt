@@ -4,7 +4,7 @@ use Rattle.std.specs.Prelude.{◌&&◌}
 use Rattle.std.specs.List.{filter}
 use Rattle.bson.specs.Tree.{Pairs}
 use Rattle.filter.specs.Condition.{Conditions}
-use Rattle.entries.specs.State.{Collection}
+use Rattle.entry_model.specs.State.{Collection}
 use Rattle.index.specs.View.{texts_of}
 use Rattle.asked_documents.specs.Asking.{IsAsked}
 use Rattle.asked_documents.specs.ById.{AreIdsOf}

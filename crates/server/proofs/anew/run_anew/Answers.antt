@@ -3,7 +3,7 @@ use Rattle.std.specs.Prelude.{replicate}
 use Rattle.page.specs.History.{Sector, now, reads}
 use Rattle.page.specs.Memory.{memory_history}
 use Rattle.database_model.specs.World.{new_world}
-use Rattle.entries.specs.State.{Collection}
+use Rattle.entry_model.specs.State.{Collection}
 use Rattle.server.specs.ServerState.{ServerState}
 use Rattle.server.proofs.AnewLemmas.{anew_empty, anew_word}
 use Rattle.server.proofs.anew.run_anew.Goals as goal

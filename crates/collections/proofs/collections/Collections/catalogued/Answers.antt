@@ -1,7 +1,7 @@
 use Rattle.std.proofs.Common.{subst, sym, ◌≡◌, Ok, Some, ◌∙◌}
 use Rattle.std.specs.Prelude.{IfSome, Option}
 use Rattle.std.specs.Option.{option_map}
-use Rattle.entries.specs.State.{find_collection}
+use Rattle.entry_model.specs.State.{find_collection}
 use Rattle.entries.specs.declared.catalogue_reading.Catalogued.{Catalogued}
 use Rattle.collections.specs.Calls.{Reads}
 use Rattle.collections.specs.Reading.{catalogued_in, catalogued_of}

@@ -2,7 +2,7 @@ use Rattle.std.proofs.Common.{refl, rules, subst, sym, Ok, Err, List}
 use Rattle.std.specs.Prelude.{Result}
 use Rattle.btree.specs.declared.scanning.Batch.{Batch}
 use Rattle.path.specs.declared.refusal.Refusal.{Refusal}
-use Rattle.entries.specs.State.{Collection}
+use Rattle.entry_model.specs.State.{Collection}
 use Rattle.collections.specs.Below.{IsNothing, ReadsBelow}
 use Rattle.collections.specs.Reading.{IsBatchOf, IsInTree}
 use Rattle.collections.specs.State.{State}

@@ -2,7 +2,7 @@ use Rattle.std.proofs.Common.{List, Ok, Err, ap}
 use Rattle.std.specs.Option.{option_map}
 use Rattle.std.proofs.lemmas.Result.{err_from_is_err_and}
 use Rattle.index.specs.View.{texts_of}
-use Rattle.entries.specs.State.{Collection}
+use Rattle.entry_model.specs.State.{Collection}
 use Rattle.collections.specs.IndexTexts.{AreFirstTexts, AreNextTexts, Indexed, IsNumberedIndex}
 use Rattle.collections.specs.State.{State}
 use Rattle.collections.specs.declared.index_texts.FirstTexts.{FirstTexts}

@@ -3,7 +3,7 @@ use Rattle.std.specs.Option.{option_map}
 use Rattle.std.proofs.lemmas.Result.{err_from_is_err_and}
 use Rattle.btree.specs.Fold.{between}
 use Rattle.btree.specs.declared.folding.Bounds.{Bounds}
-use Rattle.entries.specs.StateEntries.{key_under}
+use Rattle.entry_model.specs.StateEntries.{key_under}
 use Rattle.collections.specs.Below.{IsNothing}
 use Rattle.collections.specs.Folding.{Lends, documents_within, end_under}
 use Rattle.collections.specs.Reading.{IsInTree, IsNumbered}

@@ -1,7 +1,7 @@
 use Rattle.std.proofs.Common.{ap, sym, subst, ◌≡◌, Ok, Err, Some, None, ◌∙◌}
 use Rattle.std.specs.Option.{option_map}
 use Rattle.std.proofs.lemmas.Result.{err_from_is_err_and}
-use Rattle.entries.specs.State.{find_collection}
+use Rattle.entry_model.specs.State.{find_collection}
 use Rattle.collections.specs.Calls.{Reads}
 use Rattle.collections.specs.State.{State}
 use Rattle.collections.specs.Reading.{IsInTree, IsValueAt, catalogued_in, catalogued_of}

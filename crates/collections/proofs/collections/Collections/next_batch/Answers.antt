@@ -5,7 +5,7 @@ use Rattle.std.proofs.lemmas.List.{length-take}
 use Rattle.std.proofs.lemmas.Result.{err_from_is_err_and}
 use Rattle.btree.specs.declared.scanning.Entry.{Entry}
 use Rattle.btree.specs.declared.scanning.Range.{Range}
-use Rattle.entries.specs.StateEntries.{key_under}
+use Rattle.entry_model.specs.StateEntries.{key_under}
 use Rattle.path.specs.declared.refusal.Refusal.TheVariants as refusals
 use Rattle.collections.specs.Reading.{IsBatchOf, IsInTree}
 use Rattle.collections.specs.Walk.{HasNext, IsWalk}

@@ -1,7 +1,7 @@
 use Rattle.std.proofs.Common.{List, arith, refl}
 use Rattle.std.specs.Option.{option_map}
 use Rattle.index.specs.View.{texts_of}
-use Rattle.entries.specs.State.{Collection}
+use Rattle.entry_model.specs.State.{Collection}
 use Rattle.collections.specs.IndexTexts.{AreNextTexts, AreReadNext, Indexed, IsNumberedIndex}
 use Rattle.collections.specs.declared.index_texts.NextTexts.{NextTexts}
 use Rattle.collections.proofs.BelowLemmas.{asks_version}

@@ -2,7 +2,7 @@ use Rattle.std.proofs.Common.{refl, rules, subst, sym, List, Result, Ok, Err}
 use Rattle.btree.specs.Fold.{between}
 use Rattle.tree_model.specs.Keys.{Entry}
 use Rattle.path.specs.declared.refusal.Refusal.{Refusal}
-use Rattle.entries.specs.State.{Collection}
+use Rattle.entry_model.specs.State.{Collection}
 use Rattle.collections.specs.Below.{IsNothing, ReadsBelow}
 use Rattle.collections.specs.ReadTexts.{AreTextsRead}
 use Rattle.collections.specs.Reading.{IsInTree}

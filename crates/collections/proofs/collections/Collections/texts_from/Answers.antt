@@ -4,7 +4,7 @@ use Rattle.std.proofs.lemmas.Result.{err_from_is_err_and}
 use Rattle.btree.specs.Fold.{between}
 use Rattle.btree.specs.declared.folding.Bounds.{Bounds}
 use Rattle.entries.specs.OtherKeys.{IsEndOf}
-use Rattle.entries.specs.StateEntries.{key_under}
+use Rattle.entry_model.specs.StateEntries.{key_under}
 use Rattle.index.specs.View.{texts_of}
 use Rattle.collections.specs.Below.{IsNothing}
 use Rattle.collections.specs.IndexTexts.{AreNextTexts, IsNumberedIndex, next_behind}

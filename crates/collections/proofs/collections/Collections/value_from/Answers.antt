@@ -5,7 +5,7 @@ use Rattle.page.specs.History.{KeepsWord}
 use Rattle.tree_model.specs.Store.{IsSame}
 use Rattle.tree_model.proofs.StoreLemmas.{same_itself}
 use Rattle.path.specs.declared.refusal.Refusal.{Refusal}
-use Rattle.entries.specs.State.{Collection}
+use Rattle.entry_model.specs.State.{Collection}
 use Rattle.collections.specs.Below.{IsNothing, ReadsBelow}
 use Rattle.collections.specs.Reading.{IsInTree, IsValueAt}
 use Rattle.collections.specs.State.{State}

@@ -4,9 +4,9 @@ use Rattle.std.proofs.lemmas.Result.{err_from_is_err_and}
 use Rattle.bson.specs.Tree.{Pairs}
 use Rattle.value_order.specs.KeyText.{tree_text}
 use Rattle.index.specs.Definition.{Definition}
-use Rattle.entries.specs.Entering.{AreKeyed}
+use Rattle.entries.specs.KeyedDocuments.{AreKeyed}
 use Rattle.index.specs.KeyTexts.{keys_in_all}
-use Rattle.entries.specs.LawfulState.{IsStorable}
+use Rattle.entry_model.specs.LawfulState.{IsStorable}
 use Rattle.database_model.specs.Documents.{key_of}
 use Rattle.engine.specs.Storing.{MayEnter, Notes, entering}
 use Rattle.engine.proofs.EnteringSteps.{enter_unkeyed, enter_untexted}

@@ -4,7 +4,7 @@ use Rattle.std.specs.Prelude.{option_map}
 use Rattle.std.proofs.lemmas.Result.{err_from_is_err_and}
 use Rattle.bson.specs.Tree.{Pairs}
 use Rattle.index.specs.Definition.{Definition}
-use Rattle.entries.specs.Entering.{Enters}
+use Rattle.entry_model.specs.Entering.{Enters}
 use Rattle.index.specs.IndexKeys.{noted}
 use Rattle.index.specs.KeyTexts.{keys_in_all}
 use Rattle.entries.specs.declared.catalogue_reading.Catalogued.{Catalogued}

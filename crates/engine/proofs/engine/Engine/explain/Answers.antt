@@ -1,7 +1,7 @@
 use Rattle.std.proofs.Common.{◌≡◌, List, ap, ◌∙◌}
 use Rattle.command_model.specs.Find.{Query}
 use Rattle.index.specs.Definition.{Definition}
-use Rattle.planner.specs.Plan.{choose}
+use Rattle.plan_model.specs.Plan.{choose}
 use Rattle.planner.specs.View.{plan_of}
 use Rattle.engine.proofs.ExplainingLemmas.{explain_done, explain_missing}
 use Rattle.engine.proofs.engine.Engine.explain.Goals as goal

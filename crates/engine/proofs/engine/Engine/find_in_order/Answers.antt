@@ -3,7 +3,7 @@ use Rattle.std.proofs.lemmas.Result.{err_from_is_err_and}
 use Rattle.command_model.specs.Find.{Find}
 use Rattle.database_model.specs.Find.{run_find}
 use Rattle.database_model.specs.World.{World}
-use Rattle.entries.specs.State.{Collection}
+use Rattle.entry_model.specs.State.{Collection}
 use Rattle.pinned_cursors.specs.Opening.{that_keep}
 use Rattle.engine.specs.TakingOut.{HasHome}
 use Rattle.engine.specs.View.{world}

@@ -5,7 +5,7 @@ use Rattle.bson.specs.Tree.{Pairs}
 use Rattle.command_model.specs.Find.{Find, Query}
 use Rattle.database_model.specs.Find.{given, matching, run_find, window}
 use Rattle.database_model.specs.World.{World}
-use Rattle.entries.specs.State.{Collection}
+use Rattle.entry_model.specs.State.{Collection}
 use Rattle.sort.specs.Sort.{order}
 use Rattle.engine.specs.TakingOut.{HasHome}
 use Rattle.engine.specs.View.{world}

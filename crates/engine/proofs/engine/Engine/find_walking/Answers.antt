@@ -7,7 +7,7 @@ use Rattle.command_model.specs.Find.{Find}
 use Rattle.database_model.specs.Find.{given, matching, run_find}
 use Rattle.database_model.specs.Lawful.{IsWithin}
 use Rattle.database_model.specs.World.{World, documents_of}
-use Rattle.entries.specs.State.{Collection}
+use Rattle.entry_model.specs.State.{Collection}
 use Rattle.path.specs.declared.refusal.Refusal.{Refusal}
 use Rattle.queries.specs.LookedUp.{IsLookedUp, IsLookedUpWithin}
 use Rattle.walks.specs.Batches.{IsWholeBatch}

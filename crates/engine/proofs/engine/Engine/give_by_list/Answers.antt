@@ -6,8 +6,8 @@ use Rattle.std.proofs.lemmas.Result.{err_from_is_err_and}
 use Rattle.bson.specs.Tree.{Pairs}
 use Rattle.projection.specs.Projection.{project}
 use Rattle.cursors.specs.Held.{listed, table_of}
-use Rattle.entries.specs.State.{key_of}
-use Rattle.entries.specs.StateReads.{find_document}
+use Rattle.entry_model.specs.State.{key_of}
+use Rattle.entry_model.specs.StateReads.{find_document}
 use Rattle.index.specs.View.{texts_of}
 use Rattle.walks.specs.Listed.{id_text_of}
 use Rattle.database_model.specs.World.{World}

@@ -8,7 +8,7 @@ use Rattle.database_model.specs.Find.{run_find}
 use Rattle.database_model.specs.Lawful.{IsWithin}
 use Rattle.database_model.specs.World.{World, documents_of}
 use Rattle.statements.proofs.KeptLemmas.{stored_at}
-use Rattle.entries.specs.State.{Collection}
+use Rattle.entry_model.specs.State.{Collection}
 use Rattle.path.specs.declared.refusal.Refusal.{Refusal}
 use Rattle.path.specs.declared.refusal.Refusal.TheVariants as refusals
 use Rattle.cursors.specs.Held.{Held, through}

@@ -1,7 +1,7 @@
 use Rattle.std.proofs.Common.{rules, List, sym, subst, ◌∙◌}
 use Rattle.std.proofs.lemmas.Result.{err_from_is_err_and}
 use Rattle.tree_model.specs.Keys.{Edit}
-use Rattle.entries.specs.Documents.{AddsCollection}
+use Rattle.entry_model.specs.Documents.{AddsCollection}
 use Rattle.path.specs.declared.refusal.Refusal.TheVariants as refusals
 use Rattle.database_model.specs.Create.{created}
 use Rattle.engine.specs.View.{world}

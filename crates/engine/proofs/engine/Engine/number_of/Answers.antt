@@ -1,6 +1,6 @@
 use Rattle.std.proofs.Common.{◌≡◌, refl}
 use Rattle.std.specs.Option.{option_map}
-use Rattle.entries.specs.State.{find_collection}
+use Rattle.entry_model.specs.State.{find_collection}
 use Rattle.engine.proofs.LookingLemmas.{looks_so}
 use Rattle.engine.proofs.engine.Engine.number_of.Goals as goal
 

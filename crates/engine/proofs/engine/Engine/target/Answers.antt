@@ -1,7 +1,7 @@
 use Rattle.std.proofs.Common.{List, length, ap, subst, arith}
 use Rattle.std.proofs.lemmas.Result.{err_from_is_err_and}
 use Rattle.tree_model.specs.Keys.{Edit}
-use Rattle.entries.specs.Documents.{AddsCollection}
+use Rattle.entry_model.specs.Documents.{AddsCollection}
 use Rattle.engine.proofs.InsertSteps.{target_new, target_refused, target_there, target_unread, target_without_memory}
 use Rattle.engine.proofs.OnlyReading.{reads_on}
 use Rattle.engine.proofs.engine.Engine.target.Goals as goal

@@ -1,7 +1,7 @@
 use Rattle.std.proofs.Common.{List, ap, subst, ◌∙◌}
 use Rattle.tree_model.specs.Keys.{Edit}
 use Rattle.entries.specs.Indexed.{with_edits, NotesSome}
-use Rattle.entries.specs.StateEntries.{document_entry, document_entries, removal_of, removals}
+use Rattle.entry_model.specs.StateEntries.{document_entry, document_entries, removal_of, removals}
 use Rattle.entries.proofs.LoopLemmas.{on_err, if_err}
 use Rattle.entries.proofs.NotingLemmas.{on_ok}
 use Rattle.entries.proofs.IndexedLaws.{one_each, all_short, entries_are, nothing_noted, behind_first, first_removed, deletes_from}

@@ -1,7 +1,8 @@
 use Rattle.std.proofs.Common.{List, map, Option, Some, Bor, Ok, sym, ap, subst, ◌∙◌}
 use Rattle.std.specs.Prelude.{IfSome, OnOk, option_map}
 use Rattle.index.specs.Definition.{Definition}
-use Rattle.entries.specs.Entering.{AreKeyed, Enters}
+use Rattle.entry_model.specs.Entering.{Enters}
+use Rattle.entries.specs.KeyedDocuments.{AreKeyed}
 use Rattle.entries.specs.Indexed.{InsertsInto, ReplacesIn}
 use Rattle.index.specs.KeyTexts.{keys_in_all}
 use Rattle.index.specs.View.{texts_of}

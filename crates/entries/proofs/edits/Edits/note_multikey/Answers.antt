@@ -1,9 +1,9 @@
 use Rattle.std.proofs.Common.{◌≡◌, false, length, map, sym, ap, ◌∙◌}
 use Rattle.std.specs.List.{list_any}
-use Rattle.entries.specs.Entering.{becomes_multikey}
+use Rattle.entry_model.specs.Entering.{becomes_multikey}
 use Rattle.index.specs.IndexKeys.{noted}
 use Rattle.entries.proofs.EnteringSteps.{notes_none, notes_some, noted_so, written_back}
-use Rattle.entries.proofs.KeptSteps.{long_map}
+use Rattle.entry_model.proofs.KeptSteps.{long_map}
 use Rattle.entries.proofs.NotingLemmas.{on_ok}
 use Rattle.entries.proofs.edits.Edits.note_multikey.Goals as goal
 

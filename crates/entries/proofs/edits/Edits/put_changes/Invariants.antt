@@ -1,6 +1,6 @@
 use Rattle.std.proofs.Common.{drop, map}
 use Rattle.entries.specs.Indexed.{NotesUpTo, entries_in_all}
-use Rattle.entries.specs.StateEntries.{puts}
+use Rattle.entry_model.specs.StateEntries.{puts}
 use Rattle.entries.proofs.edits.Edits.put_changes.Given as goal
 
 abbrev pub invariant-indexes : goal.invariant-indexes

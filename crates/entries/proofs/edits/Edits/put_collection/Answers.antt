@@ -1,8 +1,8 @@
 use Rattle.std.proofs.Common.{[], ◌∙◌}
 use Rattle.bson.specs.Spelling.{frame_of, pairs_bytes}
 use Rattle.value_order.specs.KeyText.{tree_text}
-use Rattle.entries.specs.State.{words}
-use Rattle.entries.specs.StateEntries.{key_under, catalogue_value}
+use Rattle.entry_model.specs.State.{words}
+use Rattle.entry_model.specs.StateEntries.{key_under, catalogue_value}
 use Rattle.entries.proofs.NotingLemmas.{on_ok, put_same, name_fits, catalogue_fits}
 use Rattle.entries.proofs.StateEditLaws.{adds_with}
 use Rattle.entries.proofs.edits.Edits.put_collection.Goals as goal

@@ -1,7 +1,7 @@
 use Rattle.std.proofs.Common.{List, ap, subst, ◌∙◌}
 use Rattle.tree_model.specs.Keys.{Entry, Edit}
 use Rattle.entries.specs.Indexed.{with_edits, NotesSome}
-use Rattle.entries.specs.StateEntries.{index_entries, puts}
+use Rattle.entry_model.specs.StateEntries.{index_entries, puts}
 use Rattle.index.specs.View.{texts_of}
 use Rattle.entries.proofs.LoopLemmas.{if_err}
 use Rattle.entries.proofs.NotingLemmas.{on_ok}

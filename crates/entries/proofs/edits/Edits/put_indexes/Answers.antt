@@ -2,8 +2,8 @@ use Rattle.std.proofs.Common.{[], ◌∷◌}
 use Rattle.bson.specs.Spelling.{frame_of, pairs_bytes}
 use Rattle.value_order.specs.KeyText.{tree_text}
 use Rattle.entries.specs.Indexed.{catalogue_put}
-use Rattle.entries.specs.State.{words}
-use Rattle.entries.specs.StateEntries.{key_under, catalogue_value}
+use Rattle.entry_model.specs.State.{words}
+use Rattle.entry_model.specs.StateEntries.{key_under, catalogue_value}
 use Rattle.entries.proofs.CatalogueValues.{some_short, edit_is, notes_of}
 use Rattle.entries.proofs.ManyEditsLaws.{noted_goes}
 use Rattle.entries.proofs.NotingLemmas.{on_ok, put_same, name_fits}

@@ -2,7 +2,7 @@ use Rattle.std.proofs.Common.{◌≡◌, ℕ, ◌≤◌, List, map, length, sym,
 use Rattle.tree_model.specs.Keys.{Edit}
 use Rattle.index.specs.declared.changes.KeyChanges.{KeyChanges}
 use Rattle.entries.specs.Indexed.{with_edits, entries_at, entries_in_all, NotesSome}
-use Rattle.entries.specs.StateEntries.{removal_of, removals}
+use Rattle.entry_model.specs.StateEntries.{removal_of, removals}
 use Rattle.entries.proofs.LoopLemmas.{on_err}
 use Rattle.entries.proofs.IndexedLoops.{step, cut_off, last, all_at}
 use Rattle.entries.proofs.edits.Edits.remove_changes.Goals as goal

@@ -1,6 +1,6 @@
 use Rattle.std.proofs.Common.{drop, map}
 use Rattle.entries.specs.Indexed.{NotesUpTo, entries_in_all}
-use Rattle.entries.specs.StateEntries.{removals}
+use Rattle.entry_model.specs.StateEntries.{removals}
 use Rattle.entries.proofs.edits.Edits.remove_changes.Given as goal
 
 abbrev pub invariant-indexes : goal.invariant-indexes

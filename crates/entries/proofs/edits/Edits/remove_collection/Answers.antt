@@ -1,6 +1,6 @@
 use Rattle.value_order.specs.KeyText.{tree_text}
-use Rattle.entries.specs.State.{words}
-use Rattle.entries.specs.StateEntries.{key_under}
+use Rattle.entry_model.specs.State.{words}
+use Rattle.entry_model.specs.StateEntries.{key_under}
 use Rattle.entries.proofs.NotingLemmas.{on_ok, removed_same, name_fits}
 use Rattle.entries.proofs.StateEditLaws.{drops_with}
 use Rattle.entries.proofs.edits.Edits.remove_collection.Goals as goal

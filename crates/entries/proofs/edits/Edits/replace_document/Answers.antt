@@ -3,9 +3,9 @@ use Rattle.std.specs.List.{flat_map}
 use Rattle.value_order.specs.KeyText.{tree_text}
 use Rattle.tree_model.specs.Keys.{Entry, Edit}
 use Rattle.entries.specs.Indexed.{with_edits, NotesSome, replacing_in, without_all}
-use Rattle.entries.specs.State.{key_of}
-use Rattle.entries.specs.StateEntries.{document_entry, put_of, puts, removals}
-use Rattle.entries.specs.StateLaws.{own_entries}
+use Rattle.entry_model.specs.State.{key_of}
+use Rattle.entry_model.specs.StateEntries.{document_entry, put_of, puts, removals}
+use Rattle.entry_model.specs.StateLaws.{own_entries}
 use Rattle.index.specs.declared.changes.KeyChanges.{KeyChanges}
 use Rattle.entries.proofs.LoopLemmas.{on_err, if_err}
 use Rattle.entries.proofs.NotingLemmas.{on_ok}

@@ -1,7 +1,7 @@
 use Rattle.std.proofs.Common.{◌≡◌, drop}
 use Rattle.filter.specs.View.{conditions_of}
 use Rattle.path.specs.Parts.{parts_of}
-use Rattle.planner.specs.Usable.{or, usable_there, gather}
+use Rattle.plan_model.specs.Usable.{or, usable_there, gather}
 use Rattle.planner.specs.View.{usable_of, field_of}
 use Rattle.planner.proofs.field.Field.usable.Given as goal
 

@@ -2,8 +2,8 @@ use Rattle.std.proofs.Common.{◌≡◌, [], ◌∷◌, Option, ap, ◌∙◌}
 use Rattle.std.specs.Option.{option_and}
 use Rattle.std.specs.Borrow.{Bor}
 use Rattle.bson.specs.declared.value.Value.{Value}
-use Rattle.planner.specs.Usable.{Usable}
-use Rattle.planner.specs.Plan.{fields_of}
+use Rattle.plan_model.specs.Usable.{Usable}
+use Rattle.plan_model.specs.Plan.{fields_of}
 use Rattle.planner.specs.View.{index_of, values_of}
 use Rattle.planner.proofs.FieldLemmas.{four_values}
 use Rattle.planner.proofs.range.Leading.new.Goals as goal

@@ -9,10 +9,10 @@ use Rattle.bson.specs.Spelling.{frame_of, pairs_bytes}
 use Rattle.value_order.specs.KeyText.{tree_text}
 use Rattle.value_order.specs.Laws.{IsKey}
 use Rattle.value_order.specs.Order.{value, compare}
-use Rattle.entries.specs.State.{Collection, key_of, find_collection, put_collection}
-use Rattle.entries.specs.State.{without_collection}
-use Rattle.entries.specs.StateReads.{find_document}
-use Rattle.entries.specs.LawfulState.{IsStorable, IsKept, IsLawfulState}
+use Rattle.entry_model.specs.State.{Collection, key_of, find_collection, put_collection}
+use Rattle.entry_model.specs.State.{without_collection}
+use Rattle.entry_model.specs.StateReads.{find_document}
+use Rattle.entry_model.specs.LawfulState.{IsStorable, IsKept, IsLawfulState}
 
 -- A collection that is found is within the limits, and it has the name.
 abbrev pub FoundCollection : Type 0

@@ -15,7 +15,7 @@ use Rattle.index.specs.Changes.{is_among}
 use Rattle.index.specs.Definition.{Field, Definition, IsDefinition}
 use Rattle.index.specs.IndexKeys.{is_multikey}
 use Rattle.index.specs.KeyTexts.{encoded_keys, keys_in}
-use Rattle.entries.specs.State.{Collection, key_of, uses}
+use Rattle.entry_model.specs.State.{Collection, key_of, uses}
 
 -- A document that may be stored: BSON can spell it, within the limits, and it has an `_id` whose
 -- key text is within its limit.

@@ -9,7 +9,7 @@ use Rattle.sort.specs.Sort.{SortField}
 use Rattle.value_order.specs.declared.texts.Direction.{Direction}
 use Rattle.value_order.specs.declared.texts.Direction.TheVariants.{Ascending, Descending}
 use Rattle.index.specs.Definition.{Field, Definition}
-use Rattle.planner.specs.Usable.{Bound, Usable, nothing, is_path, usable}
+use Rattle.plan_model.specs.Usable.{Bound, Usable, nothing, is_path, usable}
 
 -- A range of an index: the keys that begin with values equal to these, and of which the next one
 -- lies between the ends.

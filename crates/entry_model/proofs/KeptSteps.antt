@@ -1,21 +1,24 @@
 -- A collection within the limits, with a document or an index more, and with one less.
 use Rattle.std.proofs.Common.{◌≡◌, ◌≢◌, suc, Bool, true, false, List, [], ◌∷◌, ◌++◌, length, map, Ok, inl, inr, refl, sym, ap, subst, ◌∙◌, arith, length-append}
+use Rattle.std.proofs.Common.{◌+◌, ◌<◌, ℕ, get_or, take, drop}
 use Rattle.std.specs.Prelude.{All, if◌then◌else◌}
 use Rattle.std.specs.List.{AllPairs}
 use Rattle.std.specs.declared.cmp.Ordering.TheVariants.{Less}
+use Rattle.std.proofs.lemmas.List.{take-append-drop}
 use Rattle.bson.specs.Tree.{Pairs}
 use Rattle.value_order.specs.Order.{compare}
 use Rattle.index.specs.Changes.{is_among}
 use Rattle.index.specs.Definition.{Field, Definition}
 use Rattle.index.specs.KeyTexts.{encoded_keys, keys_in}
-use Rattle.entries.specs.State.{key_of}
-use Rattle.entries.specs.LawfulState.{IsStorable, IsRising, IsIndexOf, ShareNoKey}
-use Rattle.entries.specs.StateLaws.{AreAlike}
+use Rattle.entry_model.specs.State.{key_of}
+use Rattle.entry_model.specs.LawfulState.{IsStorable, IsRising, IsIndexOf, ShareNoKey}
+use Rattle.entry_model.specs.StateLaws.{AreAlike}
 use Rattle.index.specs.IndexKeys.{is_multikey, noted}
-use Rattle.entries.specs.KeptLaws.{MayEnter, IsNotedFor, KeptWithDocument, KeptWithoutDocument, KeptWithIndex, KeptWithoutIndex, KeptNoted}
-use Rattle.entries.proofs.MemberLemmas.{Among, among_front, among_back, among_map, of_all, first_of}
-use Rattle.entries.proofs.KeyOfDocument.{among_middle, among_around}
-use Rattle.entries.proofs.LawfulLaws.{all_of, pairs_of}
+use Rattle.index.proofs.TextLemmas.{drop_step}
+use Rattle.entry_model.specs.KeptLaws.{MayEnter, IsNotedFor, KeptWithDocument, KeptWithoutDocument, KeptWithIndex, KeptWithoutIndex, KeptNoted}
+use Rattle.entry_model.proofs.MemberLemmas.{Among, among_front, among_back, among_map, of_all, first_of}
+use Rattle.entry_model.proofs.KeyOfDocument.{among_middle, among_around}
+use Rattle.entry_model.proofs.LawfulLaws.{all_of, pairs_of}
 
 -- ---- one more and one less, of any list
 
@@ -25,6 +28,12 @@ all_middle P front back y h here =
 
 pub all_around : {X : Type 0} (P : X → Type 0) (front back : List X) (y : X) → All P (front ++ y ∷ back) → All P (front ++ back)
 all_around P front back y h = all_of P (front ++ back) (λ x g. of_all P (front ++ y ∷ back) x h (among_around x y front back g))
+
+-- what stands around a place
+pub cut_at : {X : Type 0} (xs : List X) (i : ℕ) (x : X) → i < length xs → x ≡ get_or xs i x → xs ≡ take i xs ++ x ∷ drop (suc i) xs
+cut_at xs i x within is =
+    let next : i + 1 ≡ suc i = omega arith in
+    sym (take-append-drop i xs) ∙ ap (λ (ys : List _). take i xs ++ ys) (drop_step xs i x within is ∙ ap (λ (n : ℕ). x ∷ drop n xs) next)
 
 rest_pairs : {X : Type 0} (R : X → X → Type 0) (x : X) (xs : List X) → AllPairs R (x ∷ xs) → AllPairs R xs
 rest_pairs R x xs h = λ i j d lt below. h (suc i) (suc j) d (omega (arith, lt)) (omega (arith, below))

@@ -11,11 +11,12 @@ use Rattle.tree_model.specs.Keys.{Entry, value_at, window}
 use Rattle.index.specs.Definition.{Definition}
 use Rattle.index.specs.KeyTexts.{key_bytes, encoded_keys}
 use Rattle.index.specs.Laws.{IsIndexKey}
-use Rattle.entries.specs.State.{Collection, words, key_of, find_collection}
-use Rattle.entries.specs.StateEntries.{key_under, catalogue_value, catalogue_entry, document_entry}
-use Rattle.entries.specs.StateEntries.{Spells}
-use Rattle.entries.specs.StateLaws.{entries_in}
-use Rattle.entries.specs.LawfulState.{IsLawfulState}
+use Rattle.entry_model.specs.State.{Collection, words, key_of, find_collection}
+use Rattle.entry_model.specs.StateEntries.{key_under, catalogue_value, catalogue_entry}
+use Rattle.entry_model.specs.StateEntries.{document_entry}
+use Rattle.entry_model.specs.StateEntries.{Spells}
+use Rattle.entry_model.specs.StateLaws.{entries_in}
+use Rattle.entry_model.specs.LawfulState.{IsLawfulState}
 
 -- the map spells a lawful state
 pub record SpellsLawful (entries : List Entry) (cs : List Collection) : Type 0 where

@@ -9,14 +9,16 @@ use Rattle.tree_model.specs.Keys.{Entry, Edit, Rises, change}
 use Rattle.index.specs.Definition.{Definition}
 use Rattle.index.specs.Changes.{without}
 use Rattle.index.specs.KeyTexts.{encoded_keys}
-use Rattle.entries.specs.State.{Collection, key_of, empty_collection, find_collection, uses}
-use Rattle.entries.specs.State.{put_collection, without_collection}
-use Rattle.entries.specs.StateEntries.{catalogue_entry, document_entry, index_entry, index_entries}
-use Rattle.entries.specs.StateEntries.{document_entries, collection_entries, state_entries}
-use Rattle.entries.specs.StateEntries.{IsEntryOf, entry_keys, Spells, put_of, puts, removals, Leads}
+use Rattle.entry_model.specs.State.{Collection, key_of, empty_collection, find_collection, uses}
+use Rattle.entry_model.specs.State.{put_collection, without_collection}
+use Rattle.entry_model.specs.StateEntries.{catalogue_entry, document_entry, index_entry}
+use Rattle.entry_model.specs.StateEntries.{index_entries}
+use Rattle.entry_model.specs.StateEntries.{document_entries, collection_entries, state_entries}
+use Rattle.entry_model.specs.StateEntries.{IsEntryOf, entry_keys, Spells, put_of, puts, removals}
+use Rattle.entry_model.specs.StateEntries.{Leads}
 use Rattle.tree_model.specs.Keys.{edit_keys}
-use Rattle.entries.specs.EditOrder.{in_key_order}
-use Rattle.entries.specs.LawfulState.{IsKept, IsLawfulState}
+use Rattle.entry_model.specs.EditOrder.{in_key_order}
+use Rattle.entry_model.specs.LawfulState.{IsKept, IsLawfulState}
 
 -- ---- what spells a state
 

@@ -13,19 +13,19 @@ use Rattle.path.specs.declared.refusal.Refusal.{Refusal}
 use Rattle.path.specs.declared.refusal.Refusal.TheVariants as refusals
 use Rattle.index.specs.Changes.{is_among}
 use Rattle.index.specs.Definition.{Field, Definition}
-use Rattle.entries.specs.Documents.{put_document}
-use Rattle.entries.specs.Entering.{AreIndexed, DocumentWrite, StayIndexed, clashes, entered, is_duplicate, is_other, share_key, with_document}
+use Rattle.entry_model.specs.Documents.{put_document}
+use Rattle.entry_model.specs.Entering.{AreIndexed, DocumentWrite, StayIndexed, clashes, entered, is_duplicate, is_other, share_key, with_document}
 use Rattle.index.specs.IndexKeys.{has_parallel_arrays, is_multikey, noted}
-use Rattle.entries.specs.KeptLaws.{MayEnter}
+use Rattle.entry_model.specs.KeptLaws.{MayEnter}
 use Rattle.index.specs.KeyTexts.{encoded_keys, is_too_long, keys_in, keys_in_all}
-use Rattle.entries.specs.LawfulState.{IsIndexOf, IsRising, ShareNoKey}
-use Rattle.entries.specs.State.{Collection, key_of}
-use Rattle.entries.specs.StateReads.{find_document}
-use Rattle.entries.proofs.DocumentPlaces.{placed, turned}
-use Rattle.entries.proofs.KeyOfDocument.{among_around}
-use Rattle.entries.proofs.KeptSteps.{index_with, index_without, long_map, noted_distinct, noted_fields, noted_for, noted_index, pairs_around, pairs_middle}
-use Rattle.entries.proofs.LawfulLaws.{all_of}
-use Rattle.entries.proofs.MemberLemmas.{Among, among_append, among_map, of_all}
+use Rattle.entry_model.specs.LawfulState.{IsIndexOf, IsRising, ShareNoKey}
+use Rattle.entry_model.specs.State.{Collection, key_of}
+use Rattle.entry_model.specs.StateReads.{find_document}
+use Rattle.entry_model.proofs.DocumentPlaces.{placed, turned}
+use Rattle.entry_model.proofs.KeyOfDocument.{among_around}
+use Rattle.entry_model.proofs.KeptSteps.{index_with, index_without, long_map, noted_distinct, noted_fields, noted_for, noted_index, pairs_around, pairs_middle}
+use Rattle.entry_model.proofs.LawfulLaws.{all_of}
+use Rattle.entry_model.proofs.MemberLemmas.{Among, among_append, among_map, of_all}
 
 -- ---- tests
 

@@ -12,15 +12,13 @@ use Rattle.path.specs.declared.refusal.Refusal.{Refusal}
 use Rattle.path.specs.declared.refusal.Refusal.TheVariants as refusals
 use Rattle.index.specs.Changes.{is_among}
 use Rattle.index.specs.Definition.{Field, Definition}
-use Rattle.entries.specs.Documents.{put_document}
+use Rattle.entry_model.specs.Documents.{put_document}
 use Rattle.index.specs.IndexKeys.{is_multikey, noted}
 use Rattle.index.specs.KeyTexts.{encoded_keys, keys_in_all}
-use Rattle.entries.specs.LawfulState.{IsRising, IsIndexOf, IsLawfulState}
-use Rattle.entries.specs.State.{Collection, find_collection, key_of, put_collection}
-use Rattle.entries.specs.StateEntries.{Leads}
-use Rattle.entries.specs.StateReads.{find_document}
-use Rattle.index.specs.View.{texts_of}
-use Rattle.entries.specs.declared.entering.Keyed.{Keyed}
+use Rattle.entry_model.specs.LawfulState.{IsRising, IsIndexOf, IsLawfulState}
+use Rattle.entry_model.specs.State.{Collection, find_collection, key_of, put_collection}
+use Rattle.entry_model.specs.StateEntries.{Leads}
+use Rattle.entry_model.specs.StateReads.{find_document}
 
 -- a document that a command writes: a new one, or one in place of that of its `_id`
 pub record DocumentWrite : Type 0 where
@@ -111,8 +109,3 @@ NotesArrays old new name number indexes d =
     → find_collection b name ≡ Some c
     → c.number ≡ number → c.indexes ≡ indexes
     → Leads new a (put_collection (record c { indexes = map (noted d) c.indexes }) b)
-
--- the keys are those of the document in these indexes
-abbrev pub AreKeyed : List Definition → Keyed → Type 0
-AreKeyed indexes k =
-    keys_in_all indexes k.document.now ≡ Ok (map (λ ks. texts_of ks.items) k.keys.items)

@@ -15,9 +15,9 @@ use Rattle.index.specs.Definition.{Field}
 use Rattle.index.specs.IndexKeys.{index_keys}
 use Rattle.index.specs.KeyTexts.{key_bytes, encoded_keys}
 use Rattle.index.specs.Laws.{IsIndexKey}
-use Rattle.entries.specs.State.{key_of}
-use Rattle.entries.specs.LawfulState.{IsStorable}
-use Rattle.entries.proofs.MemberLemmas.{Among, among_map, first_of}
+use Rattle.entry_model.specs.State.{key_of}
+use Rattle.entry_model.specs.LawfulState.{IsStorable}
+use Rattle.entry_model.proofs.MemberLemmas.{Among, among_map, first_of}
 use Rattle.index.proofs.SetLemmas.{set_among, same_itself}
 use Rattle.index.proofs.SetLaws.{not_among}
 use Rattle.index.proofs.OrderLaws.{keys_agree}

@@ -1,6 +1,6 @@
 -- Where a document is put among others in the order of their `_id`s, and which one is taken away.
-use Rattle.std.proofs.Common.{◌≡◌, suc, Bool, true, false, List, [], ◌∷◌, ◌++◌, ◌⊎◌, inl, inr, Some, None, refl, sym, ap, subst, ◌∙◌, arith}
-use Rattle.std.specs.Prelude.{if◌then◌else◌}
+use Rattle.std.proofs.Common.{◌≡◌, suc, Bool, true, false, List, [], ◌∷◌, ◌++◌, ◌⊎◌, inl, inr, Some, None, refl, sym, ap, subst, ◌∙◌, arith, Option}
+use Rattle.std.specs.Prelude.{if◌then◌else◌, All, unwrap_or}
 use Rattle.std.specs.Ordering.{is_eq, ordering_reverse}
 use Rattle.std.specs.declared.cmp.Ordering.{Ordering}
 use Rattle.std.specs.declared.cmp.Ordering.TheVariants as orders
@@ -8,11 +8,12 @@ use Rattle.std.proofs.lemmas.Cmp.{alike_right}
 use Rattle.bson.specs.Tree.{Tree, Pairs}
 use Rattle.value_order.specs.Order.{compare}
 use Rattle.value_order.specs.TotalLaws.{compare_total}
-use Rattle.entries.specs.Documents.{put_document, without_document}
-use Rattle.entries.specs.LawfulState.{IsRising}
-use Rattle.entries.specs.State.{by_order, key_of}
-use Rattle.entries.specs.StateReads.{find_document}
-use Rattle.entries.proofs.MemberLemmas.{Among, first_of}
+use Rattle.entry_model.specs.Documents.{put_document, without_document}
+use Rattle.entry_model.specs.LawfulState.{IsRising}
+use Rattle.entry_model.specs.State.{by_order, key_of}
+use Rattle.entry_model.specs.StateReads.{find_document}
+use Rattle.entry_model.proofs.MemberLemmas.{Among, first_of}
+use Rattle.entry_model.proofs.KeptSteps.{all_around, all_middle}
 
 abbrev IsBelow : Pairs → Pairs → Type 0
 IsBelow d e = compare (key_of d) (key_of e) ≡ orders.Less
@@ -99,6 +100,11 @@ placed d (x ∷ ds) h = by (compare (key_of d) (key_of x)) refl (placed d ds (re
           })
         ]
 
+-- with a document put, all are so that were and as it is
+pub all_put : (P : Pairs → Type 0) (d : Pairs) (ds : List Pairs) → IsBetween d ds ⊎ IsInstead d ds → All P ds → P d → All P (put_document d ds)
+all_put P d ds (inl b) h here = subst (All P) (sym b.put) (all_middle P b.front b.back d (subst (All P) b.split h) here)
+all_put P d ds (inr b) h here = subst (All P) (sym b.put) (all_middle P b.front b.back d (all_around P b.front b.back b.old (subst (All P) b.split h)) here)
+
 -- ---- a document that is taken away
 
 pub record IsTaken (id : Tree) (ds : List Pairs) : Type 0 where
@@ -139,3 +145,42 @@ taken id (x ∷ ds) = by (is_eq (compare id (key_of x))) refl (taken id ds)
       left = left_is false is ∙ ap (λ (es : List Pairs). x ∷ es) p.left;
       missing = ap (λ (c : Bool). if c then Some x else find_document ds id) is ∙ p.missing;
     })
+
+-- ---- a document that is found
+
+-- those in front have another `_id`
+found_behind : (d : Pairs) (front rest : List Pairs) → ((e : Pairs) → Among e front → IsBelow e d)
+    → find_document (front ++ rest) (key_of d) ≡ find_document rest (key_of d)
+found_behind d [] rest h = refl
+found_behind d (x ∷ front) rest h =
+    let above : compare (key_of d) (key_of x) ≡ orders.Greater = turned (key_of x) (key_of d) orders.Less (h x (inl refl)) in
+    ap (λ (o : Ordering). if is_eq o then Some x else find_document (front ++ rest) (key_of d)) above ∙ found_behind d front rest (λ e there. h e (inr there))
+
+-- and those behind
+found_none : (d : Pairs) (back : List Pairs) → ((e : Pairs) → Among e back → IsBelow d e) → find_document back (key_of d) ≡ None
+found_none d [] h = refl
+found_none d (x ∷ back) h =
+    ap (λ (o : Ordering). if is_eq o then Some x else find_document back (key_of d)) (h x (inl refl)) ∙ found_none d back (λ e there. h e (inr there))
+
+-- none is found of a document that goes between others
+pub none_between : (d : Pairs) (ds : List Pairs) → IsBetween d ds → find_document ds (key_of d) ≡ None
+none_between d ds b = ap (λ (es : List Pairs). find_document es (key_of d)) b.split ∙ found_behind d b.front b.back b.behind ∙ found_none d b.back b.before
+
+-- the one is found that it takes the place of
+pub some_instead : (d : Pairs) (ds : List Pairs) (b : IsInstead d ds) → find_document ds (key_of d) ≡ Some b.old
+some_instead d ds b =
+    ap (λ (es : List Pairs). find_document es (key_of d)) b.split ∙ found_behind d b.front (b.old ∷ b.back) b.behind
+    ∙ ap (λ (o : Ordering). if is_eq o then Some b.old else find_document b.back (key_of d)) (turned (key_of b.old) (key_of d) orders.Equal b.same)
+
+pub document_some : (ds : List Pairs) (id : Tree) (d : Pairs) → find_document ds id ≡ Some d → Among d ds × (compare id (key_of d) ≡ orders.Equal)
+document_some [] id d e = absurd cc
+document_some (x ∷ ds) id d e = by (is_eq (compare id (key_of x))) refl e (document_some ds id d)
+  where
+    some_is : Some x ≡ Some d → x ≡ d
+    some_is p = ap (λ (o : Option Pairs). unwrap_or o x) p
+
+    by : (b : Bool) → is_eq (compare id (key_of x)) ≡ b → (if b then Some x else find_document ds id) ≡ Some d
+        → (find_document ds id ≡ Some d → Among d ds × (compare id (key_of d) ≡ orders.Equal)) → Among d (x ∷ ds) × (compare id (key_of d) ≡ orders.Equal)
+    by true same f later =
+        let is : x ≡ d = some_is f in (inl (sym is), ap (λ (y : Pairs). compare id (key_of y)) (sym is) ∙ tie (compare id (key_of x)) same)
+    by false other f later = let r = later f in (inr r.0, r.1)

@@ -4,10 +4,10 @@ use Rattle.std.specs.Ordering.{is_eq}
 use Rattle.bson.specs.Tree.{Tree, Pairs}
 use Rattle.value_order.specs.Order.{compare}
 use Rattle.tree_model.specs.Keys.{Edit}
-use Rattle.entries.specs.State.{Collection, by_order, key_of, empty_collection, find_collection}
-use Rattle.entries.specs.State.{uses, put_collection, without_collection}
-use Rattle.entries.specs.StateEntries.{Leads}
-use Rattle.entries.specs.LawfulState.{IsLawfulState}
+use Rattle.entry_model.specs.State.{Collection, by_order, key_of, empty_collection, find_collection}
+use Rattle.entry_model.specs.State.{uses, put_collection, without_collection}
+use Rattle.entry_model.specs.StateEntries.{Leads}
+use Rattle.entry_model.specs.LawfulState.{IsLawfulState}
 
 -- ---- documents
 

@@ -7,9 +7,9 @@ use Rattle.value_order.specs.Order.{compare}
 use Rattle.index.specs.Definition.{Definition}
 use Rattle.index.specs.IndexKeys.{is_multikey, noted}
 use Rattle.index.specs.KeyTexts.{encoded_keys, keys_in}
-use Rattle.entries.specs.State.{Collection, key_of}
-use Rattle.entries.specs.LawfulState.{IsStorable, IsKept, IsIndexOf, ShareNoKey}
-use Rattle.entries.specs.StateLaws.{AreAlike}
+use Rattle.entry_model.specs.State.{Collection, key_of}
+use Rattle.entry_model.specs.LawfulState.{IsStorable, IsKept, IsIndexOf, ShareNoKey}
+use Rattle.entry_model.specs.StateLaws.{AreAlike}
 
 -- ---- documents
 

@@ -2,8 +2,8 @@
 use Rattle.std.specs.Prelude.{ℕ, Bool, if◌then◌else◌, Option, Some, None, List, ◌++◌, length, codes}
 use Rattle.std.specs.Prelude.{decimal}
 use Rattle.index.specs.Definition.{Definition}
-use Rattle.planner.specs.Usable.{Bound}
-use Rattle.planner.specs.Plan.{Range, Plan, scan, by_index}
+use Rattle.plan_model.specs.Usable.{Bound}
+use Rattle.plan_model.specs.Plan.{Range, Plan, scan, by_index}
 
 abbrev pub index_name : Option Definition → List ℕ
 index_name None = codes "_id_"

@@ -1,14 +1,18 @@
 -- A value with a short key text has a short spelling.
-use Rattle.std.proofs.Common.{◌≡◌, ℕ, ◌+◌, ◌*◌, ◌≤◌, [], ◌∷◌, ◌++◌, length, refl, arith, length-append}
+use Rattle.std.proofs.Common.{◌≡◌, ℕ, ◌+◌, ◌*◌, ◌≤◌, [], ◌∷◌, ◌++◌, length, refl, arith, length-append, zero, suc, List}
 use Rattle.std.proofs.lemmas.Fmt.{length-decimal-le}
 use Rattle.bson.specs.Tree.{Scalar, text, binary, object_id, boolean, date, null, int32, timestamp, int64, min_key, max_key, Tree, scalar, document, array}
 use Rattle.bson.specs.Tree.{Pairs, no_pairs, pair, Items, no_items, item}
 use Rattle.bson.specs.SizingLaws.{frame_of-length, pairs_size-pair, items_size-item}
 use Rattle.bson.specs.Spelling.{tree_bytes, pairs_bytes, items_bytes}
-use Rattle.value_order.specs.KeyText.{content_text, pairs_text, items_text, tree_text}
+use Rattle.value_order.specs.KeyText.{content_text, pairs_text, items_text, tree_text, escaped_text}
 use Rattle.value_order.specs.Order.{class}
-use Rattle.entries.specs.FoundLaws.{ShortIsKey}
-use Rattle.entries.proofs.FitLaws.{escaped_long}
+use Rattle.entry_model.specs.FoundLaws.{ShortIsKey}
+
+pub escaped_long : (bs : List ℕ) → length bs + 2 ≤ length (escaped_text bs)
+escaped_long [] = omega arith
+escaped_long (zero ∷ bs) = omega (arith, escaped_long bs)
+escaped_long (suc b ∷ bs) = omega (arith, escaped_long bs)
 
 scalar_short : (s : Scalar) → length (tree_bytes (scalar s)) + 6 ≤ 8 * length (tree_text (scalar s))
 unfolding tree_bytes

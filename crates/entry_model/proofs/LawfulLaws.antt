@@ -10,11 +10,11 @@ use Rattle.std.specs.declared.cmp.Ordering.{Ordering}
 use Rattle.std.specs.declared.cmp.Ordering.TheVariants as orders
 use Rattle.std.proofs.lemmas.Map.Lookups.{exact_bytes}
 use Rattle.std.proofs.lemmas.Slice.Eq.{bytes_eq-Decides}
-use Rattle.entries.specs.State.{Collection, find_collection, uses, by_order, put_collection, without_collection}
-use Rattle.entries.specs.LawfulState.{IsKept, AreNamedApart, AreNumberedApart}
-use Rattle.entries.specs.StateLaws.{StaysLawful, MakesLawful, DropsLawful}
-use Rattle.entries.proofs.MemberLemmas.{Among, of_all, first_of}
-use Rattle.entries.proofs.PlaceLemmas.{same_name, name_itself, apart_rest, found_in, found_name, without_in, put_among}
+use Rattle.entry_model.specs.State.{Collection, find_collection, uses, by_order, put_collection, without_collection}
+use Rattle.entry_model.specs.LawfulState.{IsKept, AreNamedApart, AreNumberedApart}
+use Rattle.entry_model.specs.StateLaws.{StaysLawful, MakesLawful, DropsLawful}
+use Rattle.entry_model.proofs.MemberLemmas.{Among, of_all, first_of}
+use Rattle.entry_model.proofs.PlaceLemmas.{same_name, name_itself, apart_rest, found_in, found_name, without_in, put_among}
 
 abbrev IsBelow : Collection → Collection → Type 0
 IsBelow c d = slice_cmp nat_cmp c.name d.name ≡ orders.Less

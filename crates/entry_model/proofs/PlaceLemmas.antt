@@ -9,9 +9,9 @@ use Rattle.std.specs.declared.cmp.Ordering.TheVariants as orders
 use Rattle.std.proofs.lemmas.Cmp.{tied_itself}
 use Rattle.std.proofs.lemmas.Map.Lookups.{exact_bytes}
 use Rattle.std.proofs.lemmas.Slice.Eq.{bytes_eq-Decides}
-use Rattle.entries.specs.State.{Collection, find_collection, by_order, put_collection, without_collection}
-use Rattle.entries.specs.LawfulState.{AreNamedApart}
-use Rattle.entries.proofs.MemberLemmas.{Among, first_of}
+use Rattle.entry_model.specs.State.{Collection, find_collection, by_order, put_collection, without_collection}
+use Rattle.entry_model.specs.LawfulState.{AreNamedApart}
+use Rattle.entry_model.proofs.MemberLemmas.{Among, first_of}
 
 pub same_name : (a b : List ℕ) → bytes_eq a b ≡ true → a ≡ b
 same_name a b e = (bytes_eq-Decides a b).0 e

@@ -12,7 +12,7 @@ use Rattle.tree_model.specs.Keys.{Entry, Edit, Rises, change}
 use Rattle.index.specs.Definition.{Definition}
 use Rattle.index.specs.Catalogue.{spelled}
 use Rattle.index.specs.KeyTexts.{encoded_keys, entry_key}
-use Rattle.entries.specs.State.{Collection, int, words, key_of}
+use Rattle.entry_model.specs.State.{Collection, int, words, key_of}
 
 abbrev pub key_under : ℕ → ℕ → List ℕ → List ℕ
 key_under collection index text = to_be_bytes w32 collection ++ to_be_bytes w32 index ++ text

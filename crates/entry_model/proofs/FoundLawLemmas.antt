@@ -12,13 +12,13 @@ use Rattle.std.proofs.lemmas.Slice.Eq.{bytes_eq-Decides}
 use Rattle.bson.specs.Lookup.{lookup}
 use Rattle.bson.specs.Spelling.{pairs_bytes}
 use Rattle.bson.specs.SizingLaws.{frame_of-length}
-use Rattle.entries.specs.FoundLaws.{FoundCollection, FoundDocument, FindsPut, PutTwice, WithoutPut, FieldIsKey}
-use Rattle.entries.specs.LawfulState.{IsStorable, AreNamedApart}
-use Rattle.entries.specs.State.{Collection, by_order, find_collection, put_collection, without_collection}
-use Rattle.entries.proofs.HomeLemmas.{kept_of}
-use Rattle.entries.proofs.MemberLemmas.{Among, of_all, first_of}
-use Rattle.entries.proofs.PlaceLemmas.{apart_rest, found_in, found_name, below_without}
-use Rattle.entries.proofs.ReadLaws.{document_some}
+use Rattle.entry_model.specs.FoundLaws.{FoundCollection, FoundDocument, FindsPut, PutTwice, WithoutPut, FieldIsKey}
+use Rattle.entry_model.specs.LawfulState.{IsStorable, AreNamedApart}
+use Rattle.entry_model.specs.State.{Collection, by_order, find_collection, put_collection, without_collection}
+use Rattle.entry_model.proofs.LawfulParts.{kept_of}
+use Rattle.entry_model.proofs.MemberLemmas.{Among, of_all, first_of}
+use Rattle.entry_model.proofs.PlaceLemmas.{apart_rest, found_in, found_name, below_without}
+use Rattle.entry_model.proofs.DocumentPlaces.{document_some}
 use Rattle.index.proofs.SpellableLaws.{Fits, IfFound, field_fits}
 
 pub found_collection : FoundCollection

@@ -1,0 +1,10 @@
+pub mod MemberLemmas
+pub mod PlaceLemmas
+pub mod LawfulLaws
+pub mod KeyOfDocument
+pub mod KeptSteps
+pub mod DocumentPlaces
+pub mod FoundLawLemmas
+pub mod ShortKeys
+pub mod EnteringLemmas
+pub mod LawfulParts

@@ -1,0 +1,11 @@
+pub mod State
+pub mod StateEntries
+pub mod EditOrder
+pub mod LawfulState
+pub mod StateLaws
+pub mod KeptLaws
+pub mod StateReads
+pub mod Documents
+pub mod FoundLaws
+pub mod Entering
+pub mod WithIndex
