@@ -278,10 +278,14 @@ def modifications(server):
     expect((told["lastErrorObject"], told["value"]["a"]), ({"n": 1, "updatedExisting": True}, 3))
     told = server.client().test.command("findAndModify", "modified", query={"_id": 77}, remove=True)
     expect((told["lastErrorObject"], told["value"]), ({"n": 0}, None))
-    for code, fields in ((9, {}), (9, {"remove": True, "update": {"a": 1}}), (14, {"update": [{"$set": {"a": 1}}]}), (14, {"remove": 1}),
+    for code, fields in ((9, {}), (9, {"remove": True, "update": {"a": 1}}), (9, {"remove": True, "upsert": True}),
+                         (14, {"update": [{"$set": {"a": 1}}]}), (14, {"remove": 1}),
                          (72, {"update": {"$set": {"a": 1}}, "fields": {"a": 1}}), (14, {"update": {"$inc": {"state": 1}}})):
         refused(OperationFailure, lambda: server.client().test.command("findAndModify", "modified", query={"_id": 2}, **fields), code)
     expect(jobs.find_one({"_id": 2}), {"_id": 2, "rank": 7, "state": "new", "a": 3})
+    # an update that is none is refused where no document is found too
+    for code, update in ((2, {"$foo": {"a": 1}}), (40, {"$rename": {"b": "b"}})):
+        refused(OperationFailure, lambda: server.client().test.command("findAndModify", "modified", query={"_id": 77}, update=update), code)
     # a counter that many raise at the same time: each is told another number, and others change it between
     jobs.insert_one({"_id": "counter", "n": 0})
     client, told = server.client(), []

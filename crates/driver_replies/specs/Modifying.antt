@@ -1,7 +1,7 @@
 -- A findAndModify (MongoDB manual, findAndModify): the first document is found, it is changed or
 -- deleted by its `_id`, and where the new one is wanted that is found. Nobody else asks the
 -- database between them.
-use Rattle.std.specs.Prelude.{ℕ, pos, Bool, true, false, ◌&&◌, not, nat_lt, if◌then◌else◌, List}
+use Rattle.std.specs.Prelude.{ℕ, pos, Bool, true, false, not, nat_lt, if◌then◌else◌, List}
 use Rattle.std.specs.Prelude.{codes, Option, Some, None}
 use Rattle.bson.specs.Tree.{Tree, scalar, null, document, array, Pairs, no_pairs, pair, append}
 use Rattle.bson.specs.Tree.{no_items, item}
@@ -110,13 +110,12 @@ abbrev pub asked_upsert : Modification → Pairs
 asked_upsert m =
     if is_upsert (upsert_of m) then with_id (fresh_id m.ids) (upsert_of m) else upsert_of m
 
--- what makes a document where none was found
-abbrev pub insert_one : List ℕ → List ℕ → Modification → Pairs
-insert_one database collection m = write_one writes.Update database collection (asked_upsert m)
-
--- a document is made where none was found
-abbrev pub inserts : Modification → Bool
-inserts m = m.may_insert && not m.is_removal
+-- What is asked where no document was found: an upsert, or the update as it is, which changes
+-- nothing, and is refused where it is none.
+abbrev pub update_none : List ℕ → List ℕ → Modification → Pairs
+update_none database collection m =
+    write_one writes.Update database collection
+    (if m.may_insert then asked_upsert m else replacement m.filter m.update)
 
 -- ---- what is answered
 

@@ -6,7 +6,7 @@ ghost use Rattle.bson.specs.Lawful.{levels, pairs_levels};
 ghost use Rattle.bson.specs.Tree.{document, pair, no_pairs};
 ghost use Rattle.bson.specs.View.{tree};
 ghost use Rattle.driver_replies.specs.Fields.{words};
-ghost use Rattle.driver_replies.specs.Modifying.{part_in, or_empty, modification_of, find_one, with_sort, find_first, part_of, by_id, subject_of, made_by, with_upserted, write_name, write_one, removal, replacement, change_one, upsert_of, asked_upsert, insert_one, inserts, nothing_done, done_with, value_of, modified_reply};
+ghost use Rattle.driver_replies.specs.Modifying.{part_in, or_empty, modification_of, find_one, with_sort, find_first, part_of, by_id, subject_of, made_by, with_upserted, write_name, write_one, removal, replacement, change_one, upsert_of, asked_upsert, update_none, nothing_done, done_with, value_of, modified_reply};
 
 use crate::fields::{Fact, add, document_of, put, put_text};
 use crate::fresh_ids::FreshIds;
@@ -286,24 +286,21 @@ impl Modification {
         Ok(statement)
     }
 
-    /// What makes a document where none was found.
-    pub fn insert_one(
+    /// What is asked where no document was found: what makes one, or the update as it is, which changes nothing.
+    pub fn update_none(
         &self,
         alloc: Global,
         database: &str,
         collection: &str,
     ) -> Result<Document, NoMemory>
-        ensures { IfOk result (λ d. d ≡ insert_one database.now collection.now self.now) }
+        ensures { IfOk result (λ d. d ≡ update_none database.now collection.now self.now) }
     {
-        let statement = self.upsert(alloc)?;
+        if self.may_insert {
+            let statement = self.upsert(alloc)?;
+            return write_one(alloc, Write::Update, database, collection, statement);
+        }
+        let statement = replacement(alloc, &self.filter, &self.update)?;
         write_one(alloc, Write::Update, database, collection, statement)
-    }
-
-    /// Whether a document is made where none is found.
-    pub fn inserts(&self) -> bool
-        ensures { result ≡ inserts self.now }
-    {
-        self.may_insert && !self.is_removal
     }
 
     /// The answer where no document was found.

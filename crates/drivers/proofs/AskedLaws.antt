@@ -14,7 +14,7 @@ use Rattle.driver_replies.specs.Distinct.{documents_in, key_of, with_documents}
 use Rattle.driver_replies.specs.Dropping.{drop_command, is_gone}
 use Rattle.driver_replies.specs.Indexes.{indexes_told}
 use Rattle.driver_replies.specs.Listing.{batch_in, retold}
-use Rattle.driver_replies.specs.Modifying.{inserts, made_by, part_in, subject_of}
+use Rattle.driver_replies.specs.Modifying.{made_by, part_in, subject_of}
 use Rattle.driver_replies.specs.Tallies.{refused}
 use Rattle.driver_replies.specs.WriteErrors.{refused_statement}
 use Rattle.driver_replies.specs.Writes.{after_reply, next_command}
@@ -217,7 +217,7 @@ changed_ends_by (Some subject) plan m is_new was reply = modified_ends plan m is
 changed_ends : (code : Option ℤ) (plan : Plan) (m : Modification) (was : Option Pairs) (reply : Pairs) → Ends plan (changed code plan m was reply)
 changed_ends (Some z) plan m was reply = told plan reply
 changed_ends None plan m (Some ps) reply = changed_ends_by (subject_of ps) plan m false (Some ps) reply
-changed_ends None plan m None reply = changed_ends_by (made_by reply) plan m true None reply
+changed_ends None plan m None reply = either m.may_insert plan _ _ (changed_ends_by (made_by reply) plan m true None reply) (answers plan _)
 
 change_ends : (subject : Option Pairs) (plan : Plan) (m : Modification) (ps reply : Pairs) → Ends plan (change_found subject plan m ps reply)
 change_ends None plan m ps reply = told plan reply
@@ -228,7 +228,7 @@ part_ends None plan m reply = told plan reply
 part_ends (Some ps) plan m reply = change_ends (subject_of ps) plan m ps reply
 
 none_ends : (plan : Plan) (m : Modification) → Ends plan (found_none plan m)
-none_ends plan m = either (inserts m) plan _ _ (refl, tt) (answers plan _)
+none_ends plan m = either m.is_removal plan _ _ (answers plan _) (refl, tt)
 
 found_ends : (ts : Option Items) (plan : Plan) (m : Modification) (reply : Pairs) → Ends plan (found ts plan m reply)
 found_ends None plan m reply = told plan reply

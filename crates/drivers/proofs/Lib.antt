@@ -5,3 +5,4 @@ mod AskingLaws
 pub mod StatementLaws
 mod PlanLaws
 mod AskedLaws
+mod ChangedLemmas

@@ -15,7 +15,7 @@ use Rattle.driver_replies.specs.Texts.{text_or_none, collection_of}
 use Rattle.driver_replies.specs.WriteErrors.{refused_statement}
 use Rattle.driver_replies.specs.Tallies.{refused, no_tally, with_reply, write_reply}
 use Rattle.driver_replies.specs.Modifying.{part_in, modification_of, find_one, subject_of, made_by}
-use Rattle.driver_replies.specs.Modifying.{change_one, insert_one, inserts, nothing_done, done_with}
+use Rattle.driver_replies.specs.Modifying.{change_one, update_none, nothing_done, done_with}
 use Rattle.driver_replies.specs.Modifying.{modified_reply}
 use Rattle.driver_replies.specs.NewIds.{with_new_ids}
 use Rattle.driver_replies.specs.declared.modifying.Modification.{Modification}
@@ -302,11 +302,16 @@ changed_by None plan m is_new was reply =
     (record plan { wait = waits.Plain }, final plan reply)
 changed_by (Some subject) plan m is_new was reply = modified plan m is_new was subject
 
+-- No document was found, and none is made.
+abbrev pub done_nothing : Plan → Modification → Plan × Step
+done_nothing plan m = told_step plan (modified_reply (nothing_done m) None)
+
 -- The document that was found was changed or deleted, or one was made; a refusal ends it.
 abbrev pub changed : Option ℤ → Plan → Modification → Option Pairs → Pairs → Plan × Step
 changed (Some code) plan m was reply = (record plan { wait = waits.Plain }, final plan reply)
 changed None plan m (Some ps) reply = changed_by (subject_of ps) plan m false (Some ps) reply
-changed None plan m None reply = changed_by (made_by reply) plan m true None reply
+changed None plan m None reply =
+    if m.may_insert then changed_by (made_by reply) plan m true None reply else done_nothing plan m
 
 -- what finds that document, if it wasn't refused
 abbrev pub subject_after : Option ℤ → Option Pairs → Pairs → Option Pairs
@@ -326,13 +331,14 @@ abbrev pub found_part : Option Pairs → Plan → Modification → Pairs → Pla
 found_part None plan m reply = (record plan { wait = waits.Plain }, final plan reply)
 found_part (Some ps) plan m reply = change_found (subject_of ps) plan m ps reply
 
--- No document was found: one is made, where that is wanted.
+-- No document was found: one is made, where that is wanted. Where it isn't the update is asked all
+-- the same, so that what is none is refused.
 abbrev pub found_none : Plan → Modification → Plan × Step
 found_none plan m =
-    if inserts m then (
+    if m.is_removal then done_nothing plan m else (
       record plan { wait = waits.Changed m None },
-      steps.Ask (insert_one plan.database plan.collection m),
-    ) else told_step plan (modified_reply (nothing_done m) None)
+      steps.Ask (update_none plan.database plan.collection m),
+    )
 
 -- The first document was found, or none was; a refusal ends it.
 abbrev pub found : Option Items → Plan → Modification → Pairs → Plan × Step

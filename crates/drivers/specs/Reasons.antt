@@ -32,7 +32,7 @@ row_of reasons.NoPath = names 2 (codes "BadValue") (codes "field '") (codes "': 
 row_of reasons.FieldType = names 14 (codes "TypeMismatch") (codes "field '") (codes "': wrong type")
 row_of reasons.NoChoice =
     says 9 (codes "FailedToParse")
-    (codes "a 'findAndModify' has 'update', or 'remove' without 'new'")
+    (codes "a 'findAndModify' has 'update', or 'remove' without 'new' and 'upsert'")
 row_of reasons.NoAuthentication =
     says 18 (codes "AuthenticationFailed") (codes "docpage has no authentication")
 row_of reasons.NoTransactions = says 20 (codes "IllegalOperation")

@@ -85,6 +85,7 @@ abbrev pub choice_fault : Pairs → Option (List ℕ × Reason)
 choice_fault body =
     if is_true (lookup body (codes "remove"))
     then (if is_some (lookup body (codes "update")) || is_true (lookup body (codes "new"))
+    || is_true (lookup body (codes "upsert"))
     then Some (codes "remove", reasons.NoChoice) else None)
     else (if is_some (lookup body (codes "update"))
     then None else Some (codes "update", reasons.NoChoice))

@@ -6,7 +6,7 @@ ghost use Rattle.bson.specs.View.{tree};
 ghost use Rattle.driver_replies.specs.Listing.{batch_in};
 ghost use Rattle.driver_replies.specs.Modifying.{change_one, done_with, modified_reply, subject_of};
 ghost use Rattle.driver_replies.specs.Tallies.{refused};
-ghost use Rattle.drivers.specs.Answering.{told_step, modified, changed_by, changed, subject_after, change_found, found_none, found, first_part, found_again};
+ghost use Rattle.drivers.specs.Answering.{told_step, modified, changed_by, changed, done_nothing, subject_after, change_found, found_none, found, first_part, found_again};
 ghost use Rattle.drivers.specs.Starting.{part_fault, parts_fault, flag_fault, flags_fault, choice_fault, modify_fault, modify_unless};
 ghost use Rattle.drivers.specs.declared.plan.Wait.TheVariants as waits;
 
@@ -47,7 +47,7 @@ fn choice_fault(body: &Document) -> Option<(&'static str, Reason)>
 {
     let updates = body.get("update").is_some();
     if is_true(body.get("remove")) {
-        if updates || is_true(body.get("new")) {
+        if updates || is_true(body.get("new")) || is_true(body.get("upsert")) {
             return Some(("remove", Reason::NoChoice));
         }
         return None;
@@ -180,6 +180,16 @@ impl Plan {
         Ok(Step::Ask(command?))
     }
 
+    /// Tells that no document was found, and none is made.
+    fn done_nothing(&self, alloc: Global, modification: Modification) -> Result<Step, NoMemory>
+        requires { self.now.wait ≡ waits.Plain }
+        ensures { IfOk result (λ s. (self.now, s) ≡ done_nothing self.now modification) }
+    {
+        let reply = modification.none_reply(alloc);
+        drop(modification);
+        Ok(unheard(self.more_to_come, Step::Reply(reply?)))
+    }
+
     /// Takes the reply to what changes, deletes or makes a document.
     pub(crate) fn changed(
         &mut self,
@@ -192,6 +202,10 @@ impl Plan {
         ensures { IfOk result (λ s. (self.new, s)
             ≡ changed (refused reply) self.old modification was reply) }
     {
+        if was.is_none() && !modification.may_insert && refused(&reply).is_none() {
+            drop((was, reply));
+            return self.done_nothing(alloc, modification);
+        }
         match subject_after(alloc, was.as_ref(), &reply) {
             Ok(Some(subject)) => {
                 drop(reply);
@@ -209,18 +223,16 @@ impl Plan {
         }
     }
 
-    /// Makes a document where none was found, if that is wanted.
+    /// Asks the update where no document was found, so that it makes one, or is refused where it is none.
     fn found_none(&mut self, alloc: Global, modification: Modification) -> Result<Step, NoMemory>
         requires { self.old.wait ≡ waits.Plain }
         ensures { IfOk result (λ s. (self.new, s) ≡ found_none self.old modification) }
     {
-        if !modification.inserts() {
-            let reply = modification.none_reply(alloc);
-            drop(modification);
-            return Ok(unheard(self.more_to_come, Step::Reply(reply?)));
+        if modification.is_removal {
+            return self.done_nothing(alloc, modification);
         }
         let database = self.database.as_str();
-        let command = modification.insert_one(alloc, database, self.collection.as_str());
+        let command = modification.update_none(alloc, database, self.collection.as_str());
         self.wait_for(Wait::Changed(modification, None));
         Ok(Step::Ask(command?))
     }

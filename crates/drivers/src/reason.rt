@@ -61,7 +61,7 @@ impl Reason {
             Reason::NoChoice => (
                 9,
                 "FailedToParse",
-                "a 'findAndModify' has 'update', or 'remove' without 'new'",
+                "a 'findAndModify' has 'update', or 'remove' without 'new' and 'upsert'",
                 None,
             ),
             Reason::NoAuthentication => (
