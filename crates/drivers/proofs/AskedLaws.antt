@@ -27,22 +27,22 @@ use Rattle.drivers.specs.Answering.{answered, answered_by, change_found, changed
 use Rattle.drivers.specs.Answering.{drop_step, end_cursor, error_step, final, found, found_again, found_none, found_part, kill_next, killed, modified}
 use Rattle.drivers.specs.Answering.{next_statement, plan_in, reworded, told_step, whole_step}
 use Rattle.drivers.specs.Asked.{EndsAsWanted, IgnoredGoesTheSame, IsHeardAsWanted, RefusedAsksNothing, after_replies, asked_from, begun, message_of}
-use Rattle.drivers.specs.Cleaning.{first_refused, kept}
-use Rattle.drivers.specs.Commands.{command_of}
+use Rattle.driver_fields.specs.Cleaning.{first_refused, kept}
+use Rattle.driver_fields.specs.Commands.{command_of}
 use Rattle.drivers.specs.Explaining.{explained}
 use Rattle.drivers.specs.Laws.{asked_by}
-use Rattle.drivers.specs.Reasons.{refusal_reply}
+use Rattle.driver_fields.specs.Reasons.{refusal_reply}
 use Rattle.drivers.specs.Starting.{ask, ask_explain, ask_owner, ask_unless, distinct_fault, distinct_unless, do_command, do_fault, do_message, do_query}
 use Rattle.drivers.specs.Starting.{explain_unless, kill_first, modify_fault, modify_unless, name_of, unheard}
-use Rattle.drivers.specs.declared.command.Asked.{Asked}
-use Rattle.drivers.specs.declared.command.Asked.TheVariants as askeds
-use Rattle.drivers.specs.declared.command.Command.{Command}
-use Rattle.drivers.specs.declared.command.Command.TheVariants as commands
-use Rattle.drivers.specs.declared.command.Own.TheVariants as owns
+use Rattle.driver_fields.specs.declared.command.Asked.{Asked}
+use Rattle.driver_fields.specs.declared.command.Asked.TheVariants as askeds
+use Rattle.driver_fields.specs.declared.command.Command.{Command}
+use Rattle.driver_fields.specs.declared.command.Command.TheVariants as commands
+use Rattle.driver_fields.specs.declared.command.Own.TheVariants as owns
 use Rattle.drivers.specs.declared.plan.Plan.{Plan}
 use Rattle.drivers.specs.declared.plan.Wait.{Wait}
 use Rattle.drivers.specs.declared.plan.Wait.TheVariants as waits
-use Rattle.drivers.specs.declared.reason.Reason.{Reason}
+use Rattle.driver_fields.specs.declared.reason.Reason.{Reason}
 use Rattle.drivers.specs.declared.server_info.ServerInfo.{ServerInfo}
 use Rattle.drivers.specs.declared.step.Step.{Step}
 use Rattle.drivers.specs.declared.step.Step.TheVariants as steps

@@ -6,20 +6,20 @@ use Rattle.std.specs.Str.{bytes_eq}
 use Rattle.std.proofs.lemmas.Slice.Eq.{bytes_eq-Decides}
 use Rattle.bson.specs.Lookup.{lookup}
 use Rattle.bson.specs.Tree.{Tree, document, Pairs, no_pairs, pair, append}
-use Rattle.drivers.specs.Cleaning.{is_kept, field_fault, fields_fault, own_fields, array_fault, inner_fault, first_refused, kept_inner, kept}
+use Rattle.driver_fields.specs.Cleaning.{is_kept, field_fault, fields_fault, own_fields, array_fault, inner_fault, first_refused, kept_inner, kept}
 use Rattle.drivers.specs.Starting.{ask, ask_unless, do_command, name_of}
-use Rattle.drivers.specs.Commands.{command_of}
+use Rattle.driver_fields.specs.Commands.{command_of}
 use Rattle.drivers.specs.Laws.{asked_by, Asks, AsksOwnFields, IgnoredMakesNoDifference, IgnoredInEntries}
-use Rattle.drivers.specs.Rules.{rule_of}
-use Rattle.drivers.specs.declared.cleaning.Whose.{Whose}
-use Rattle.drivers.specs.declared.cleaning.Whose.TheVariants as whoses
-use Rattle.drivers.specs.declared.command.Asked.TheVariants as askeds
+use Rattle.driver_fields.specs.Rules.{rule_of}
+use Rattle.driver_fields.specs.declared.cleaning.Whose.{Whose}
+use Rattle.driver_fields.specs.declared.cleaning.Whose.TheVariants as whoses
+use Rattle.driver_fields.specs.declared.command.Asked.TheVariants as askeds
 use Rattle.driver_replies.specs.declared.fresh_ids.FreshIds.{FreshIds}
 use Rattle.drivers.specs.declared.server_info.ServerInfo.{ServerInfo}
-use Rattle.drivers.specs.declared.reason.Reason.{Reason}
-use Rattle.drivers.specs.declared.command.Asked.{Asked}
-use Rattle.drivers.specs.declared.command.Command.{Command}
-use Rattle.drivers.specs.declared.command.Command.TheVariants as commands
+use Rattle.driver_fields.specs.declared.reason.Reason.{Reason}
+use Rattle.driver_fields.specs.declared.command.Asked.{Asked}
+use Rattle.driver_fields.specs.declared.command.Command.{Command}
+use Rattle.driver_fields.specs.declared.command.Command.TheVariants as commands
 
 own-without : (whose : Whose) (before : Pairs) (name : List ℕ) (t : Tree) (behind : Pairs) → is_kept whose name ≡ false
     → own_fields whose (append before (pair name t behind)) ≡ own_fields whose (append before behind)

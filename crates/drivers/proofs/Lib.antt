@@ -1,6 +1,3 @@
-mod TableLemmas
-mod CleaningLemmas
-mod InPlaceLemmas
 mod AskingLaws
 pub mod StatementLaws
 mod PlanLaws

@@ -9,7 +9,7 @@ use Rattle.bson.specs.Lookup.{lookup}
 use Rattle.path.specs.Parts.{path_of}
 use Rattle.drivers.specs.Answering.{wait_of, kill_wait, distinct_kept, distinct_wait, collections_wait, batch_wait, write_wait, other_wait}
 use Rattle.drivers.specs.Answering.{is_modification, is_single}
-use Rattle.drivers.specs.Cleaning.{own_rule, is_kept, kept}
+use Rattle.driver_fields.specs.Cleaning.{own_rule, is_kept, kept}
 use Rattle.driver_replies.specs.Cursors.{ids_of, ids_in, no_kills}
 use Rattle.drivers.specs.Laws.{IgnoredLeavesThePlan}
 use Rattle.driver_replies.specs.Distinct.{path_or_none, no_values}
@@ -17,16 +17,16 @@ use Rattle.driver_replies.specs.Listing.{name_in}
 use Rattle.driver_replies.specs.Modifying.{part_in, or_empty, modification_of}
 use Rattle.driver_replies.specs.NewIds.{with_new_ids}
 use Rattle.driver_replies.specs.declared.modifying.Modification.{Modification}
-use Rattle.drivers.specs.Rules.{rule_of}
+use Rattle.driver_fields.specs.Rules.{rule_of}
 use Rattle.driver_replies.specs.Texts.{text_or_none}
 use Rattle.driver_replies.specs.Writes.{is_true, write_of, field_of, is_alone, is_ordered_in, batch_of}
 use Rattle.driver_replies.specs.declared.fresh_ids.FreshIds.{FreshIds}
 use Rattle.driver_replies.specs.declared.writes.Write.{Write}
 use Rattle.driver_replies.specs.declared.writes.Write.TheVariants as writes
-use Rattle.drivers.specs.declared.cleaning.Whose.TheVariants as whoses
-use Rattle.drivers.specs.declared.command.Asked.{Asked}
-use Rattle.drivers.specs.declared.command.Asked.TheVariants as askeds
-use Rattle.drivers.specs.declared.rules.Rule.{Rule}
+use Rattle.driver_fields.specs.declared.cleaning.Whose.TheVariants as whoses
+use Rattle.driver_fields.specs.declared.command.Asked.{Asked}
+use Rattle.driver_fields.specs.declared.command.Asked.TheVariants as askeds
+use Rattle.driver_fields.specs.declared.rules.Rule.{Rule}
 use Rattle.drivers.specs.declared.plan.Plan.{Plan}
 use Rattle.drivers.specs.declared.plan.Wait.{Wait}
 use Rattle.drivers.specs.declared.plan.Wait.TheVariants as waits

@@ -16,19 +16,19 @@ use Rattle.driver_replies.specs.declared.fresh_ids.FreshIds.{FreshIds}
 use Rattle.driver_replies.specs.declared.writes.Write.{Write}
 use Rattle.driver_replies.specs.declared.writes.Write.TheVariants as writes
 use Rattle.drivers.specs.Answering.{kill_wait, distinct_kept, other_wait, wait_of, is_modification, is_single}
-use Rattle.drivers.specs.Cleaning.{is_kept, own_fields, kept_array, with_kept, kept_under, first_refused, kept}
-use Rattle.drivers.specs.Commands.{command_of}
+use Rattle.driver_fields.specs.Cleaning.{is_kept, own_fields, kept_array, with_kept, kept_under, first_refused, kept}
+use Rattle.driver_fields.specs.Commands.{command_of}
 use Rattle.drivers.specs.Laws.{done, AreOfCommand, AsksSameStatements}
-use Rattle.drivers.specs.Rules.{rule_of}
+use Rattle.driver_fields.specs.Rules.{rule_of}
 use Rattle.drivers.specs.Starting.{name_of, ask_unless, do_command}
-use Rattle.drivers.specs.declared.cleaning.Whose.{Whose}
-use Rattle.drivers.specs.declared.cleaning.Whose.TheVariants as whoses
-use Rattle.drivers.specs.declared.command.Asked.TheVariants as askeds
-use Rattle.drivers.specs.declared.command.Command.{Command}
-use Rattle.drivers.specs.declared.command.Command.TheVariants as commands
+use Rattle.driver_fields.specs.declared.cleaning.Whose.{Whose}
+use Rattle.driver_fields.specs.declared.cleaning.Whose.TheVariants as whoses
+use Rattle.driver_fields.specs.declared.command.Asked.TheVariants as askeds
+use Rattle.driver_fields.specs.declared.command.Command.{Command}
+use Rattle.driver_fields.specs.declared.command.Command.TheVariants as commands
 use Rattle.drivers.specs.declared.plan.Wait.{Wait}
 use Rattle.drivers.specs.declared.plan.Wait.TheVariants as waits
-use Rattle.drivers.specs.declared.reason.Reason.{Reason}
+use Rattle.driver_fields.specs.declared.reason.Reason.{Reason}
 use Rattle.drivers.specs.declared.server_info.ServerInfo.{ServerInfo}
 use Rattle.drivers.specs.declared.step.Step.TheVariants as steps
 

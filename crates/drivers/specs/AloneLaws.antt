@@ -25,9 +25,9 @@ use Rattle.drivers.specs.Answering.{is_single, wait_of, plan_in, plan_of, reword
 use Rattle.drivers.specs.Answering.{cursor_left, end_cursor, kill_next, killed, next_statement}
 use Rattle.drivers.specs.Answering.{whole_step, drop_next, drop_step, drop_listed, distinct_next}
 use Rattle.drivers.specs.Answering.{distinct_on, asks_alone, answered_by, answered}
-use Rattle.drivers.specs.Cleaning.{kept}
+use Rattle.driver_fields.specs.Cleaning.{kept}
 use Rattle.drivers.specs.Starting.{name_of}
-use Rattle.drivers.specs.declared.command.Asked.TheVariants as askeds
+use Rattle.driver_fields.specs.declared.command.Asked.TheVariants as askeds
 use Rattle.driver_messages.specs.declared.message.BodyFault.{BodyFault}
 use Rattle.driver_messages.specs.declared.message.Message.{Message}
 use Rattle.drivers.specs.declared.plan.Plan.{Plan}

@@ -10,7 +10,7 @@ use Rattle.bson.specs.Lookup.{lookup}
 use Rattle.bson.specs.Edits.{put, cut, items_len, without_item}
 use Rattle.std.specs.Str.{bytes_eq}
 use Rattle.driver_replies.specs.Fields.{words}
-use Rattle.drivers.specs.Rules.{is_zero}
+use Rattle.driver_fields.specs.Rules.{is_zero}
 use Rattle.driver_replies.specs.Texts.{text_or_none, collection_of}
 use Rattle.driver_replies.specs.WriteErrors.{refused_statement}
 use Rattle.driver_replies.specs.Tallies.{refused, no_tally, with_reply, write_reply}
@@ -21,9 +21,9 @@ use Rattle.driver_replies.specs.NewIds.{with_new_ids}
 use Rattle.driver_replies.specs.declared.modifying.Modification.{Modification}
 use Rattle.driver_replies.specs.Writes.{is_true, write_of, field_of, is_alone, is_ordered_in}
 use Rattle.driver_replies.specs.Writes.{batch_of, next_command, after_reply, batch_reply}
-use Rattle.drivers.specs.Cleaning.{kept}
+use Rattle.driver_fields.specs.Cleaning.{kept}
 use Rattle.driver_replies.specs.Cursors.{ids_of, first_id, kill_one, no_kills, after, kill_reply}
-use Rattle.drivers.specs.declared.command.Asked.TheVariants as askeds
+use Rattle.driver_fields.specs.declared.command.Asked.TheVariants as askeds
 use Rattle.driver_replies.specs.declared.kills.Kills.{Kills}
 use Rattle.driver_replies.specs.declared.batch.Batch.{Batch}
 use Rattle.driver_replies.specs.declared.fresh_ids.FreshIds.{FreshIds}

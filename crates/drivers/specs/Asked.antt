@@ -7,16 +7,16 @@ use Rattle.bson.specs.Tree.{Tree, Pairs, pair, append}
 use Rattle.driver_messages.specs.declared.message.Form.TheVariants as forms
 use Rattle.driver_messages.specs.declared.message.Message.{Message}
 use Rattle.drivers.specs.Answering.{answered, plan_of}
-use Rattle.drivers.specs.Cleaning.{is_kept, field_fault, first_refused}
-use Rattle.drivers.specs.Commands.{command_of}
+use Rattle.driver_fields.specs.Cleaning.{is_kept, field_fault, first_refused}
+use Rattle.driver_fields.specs.Commands.{command_of}
 use Rattle.drivers.specs.Laws.{asked_by}
-use Rattle.drivers.specs.Rules.{rule_of}
+use Rattle.driver_fields.specs.Rules.{rule_of}
 use Rattle.drivers.specs.Starting.{name_of, started}
-use Rattle.drivers.specs.declared.cleaning.Whose.TheVariants as whoses
-use Rattle.drivers.specs.declared.command.Asked.{Asked}
-use Rattle.drivers.specs.declared.command.Command.TheVariants as commands
+use Rattle.driver_fields.specs.declared.cleaning.Whose.TheVariants as whoses
+use Rattle.driver_fields.specs.declared.command.Asked.{Asked}
+use Rattle.driver_fields.specs.declared.command.Command.TheVariants as commands
 use Rattle.drivers.specs.declared.plan.Plan.{Plan}
-use Rattle.drivers.specs.declared.reason.Reason.{Reason}
+use Rattle.driver_fields.specs.declared.reason.Reason.{Reason}
 use Rattle.drivers.specs.declared.server_info.ServerInfo.{ServerInfo}
 use Rattle.drivers.specs.declared.step.Step.{Step}
 use Rattle.drivers.specs.declared.step.Step.TheVariants as steps

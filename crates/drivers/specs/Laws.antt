@@ -3,18 +3,19 @@ use Rattle.std.specs.Prelude.{◌≡◌, ℕ, Bool, false, is_none, List, Option
 use Rattle.bson.specs.Tree.{Tree, document, Pairs, pair, append}
 use Rattle.driver_replies.specs.Writes.{batch_of, write_of}
 use Rattle.driver_replies.specs.declared.batch.Batch.{Batch}
-use Rattle.drivers.specs.Cleaning.{is_kept, field_fault, entry_fault, kept_entry, first_refused}
-use Rattle.drivers.specs.Cleaning.{kept}
+use Rattle.driver_fields.specs.Cleaning.{is_kept, field_fault, entry_fault, kept_entry}
+use Rattle.driver_fields.specs.Cleaning.{first_refused}
+use Rattle.driver_fields.specs.Cleaning.{kept}
 use Rattle.drivers.specs.Starting.{ask, do_command, name_of}
 use Rattle.drivers.specs.Answering.{plan_for}
-use Rattle.drivers.specs.Rules.{rule_of}
-use Rattle.drivers.specs.Commands.{command_of}
+use Rattle.driver_fields.specs.Rules.{rule_of}
+use Rattle.driver_fields.specs.Commands.{command_of}
 use Rattle.driver_replies.specs.declared.fresh_ids.FreshIds.{FreshIds}
 use Rattle.drivers.specs.declared.server_info.ServerInfo.{ServerInfo}
-use Rattle.drivers.specs.declared.cleaning.Whose.{Whose}
-use Rattle.drivers.specs.declared.cleaning.Whose.TheVariants as whoses
-use Rattle.drivers.specs.declared.command.Asked.{Asked}
-use Rattle.drivers.specs.declared.command.Command.TheVariants as commands
+use Rattle.driver_fields.specs.declared.cleaning.Whose.{Whose}
+use Rattle.driver_fields.specs.declared.cleaning.Whose.TheVariants as whoses
+use Rattle.driver_fields.specs.declared.command.Asked.{Asked}
+use Rattle.driver_fields.specs.declared.command.Command.TheVariants as commands
 use Rattle.drivers.specs.declared.plan.Wait.TheVariants as waits
 use Rattle.drivers.specs.declared.step.Step.{Step}
 use Rattle.drivers.specs.declared.step.Step.TheVariants as steps

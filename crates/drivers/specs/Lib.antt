@@ -1,8 +1,4 @@
 pub mod Handshake
-pub mod Reasons
-pub mod Rules
-pub mod Cleaning
-pub mod Commands
 pub mod Starting
 pub mod Laws
 pub mod Explaining

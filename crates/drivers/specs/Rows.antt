@@ -4,7 +4,7 @@ use Rattle.bson.specs.Tree.{Tree, scalar, document, array, object_id, null, bool
 use Rattle.bson.specs.Tree.{no_pairs, pair, Items, no_items, item}
 use Rattle.driver_replies.specs.Fields.{int, words}
 use Rattle.drivers.specs.Handshake.{handshake_reply}
-use Rattle.drivers.specs.Reasons.{refusal_document}
+use Rattle.driver_fields.specs.Reasons.{refusal_document}
 use Rattle.drivers.specs.Laws.{done}
 use Rattle.drivers.specs.declared.server_info.ServerInfo.{ServerInfo}
 use Rattle.drivers.specs.declared.step.Step.TheVariants as steps

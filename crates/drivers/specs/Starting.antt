@@ -17,9 +17,9 @@ use Rattle.driver_replies.specs.Writes.{is_true, write_of}
 use Rattle.driver_replies.specs.declared.fresh_ids.FreshIds.{FreshIds}
 use Rattle.driver_replies.specs.Fields.{ok, int, words}
 use Rattle.drivers.specs.Handshake.{handshake_reply, build_reply}
-use Rattle.drivers.specs.Reasons.{refusal_reply, row_of}
-use Rattle.drivers.specs.Cleaning.{first_refused, kept}
-use Rattle.drivers.specs.Commands.{command_of}
+use Rattle.driver_fields.specs.Reasons.{refusal_reply, row_of}
+use Rattle.driver_fields.specs.Cleaning.{first_refused, kept}
+use Rattle.driver_fields.specs.Commands.{command_of}
 use Rattle.driver_replies.specs.Cursors.{cursor_of, ids_of, first_id, kill_one}
 use Rattle.drivers.specs.declared.server_info.ServerInfo.{ServerInfo}
 use Rattle.driver_messages.specs.declared.message.BodyFault.{BodyFault}
@@ -27,14 +27,14 @@ use Rattle.driver_messages.specs.declared.message.BodyFault.TheVariants as fault
 use Rattle.driver_messages.specs.declared.message.Form.{Form}
 use Rattle.driver_messages.specs.declared.message.Form.TheVariants as forms
 use Rattle.driver_messages.specs.declared.message.Message.{Message}
-use Rattle.drivers.specs.declared.command.Asked.{Asked}
-use Rattle.drivers.specs.declared.command.Asked.TheVariants as askeds
-use Rattle.drivers.specs.declared.command.Command.{Command}
-use Rattle.drivers.specs.declared.command.Command.TheVariants as commands
-use Rattle.drivers.specs.declared.command.Own.{Own}
-use Rattle.drivers.specs.declared.command.Own.TheVariants as owns
-use Rattle.drivers.specs.declared.reason.Reason.{Reason}
-use Rattle.drivers.specs.declared.reason.Reason.TheVariants as reasons
+use Rattle.driver_fields.specs.declared.command.Asked.{Asked}
+use Rattle.driver_fields.specs.declared.command.Asked.TheVariants as askeds
+use Rattle.driver_fields.specs.declared.command.Command.{Command}
+use Rattle.driver_fields.specs.declared.command.Command.TheVariants as commands
+use Rattle.driver_fields.specs.declared.command.Own.{Own}
+use Rattle.driver_fields.specs.declared.command.Own.TheVariants as owns
+use Rattle.driver_fields.specs.declared.reason.Reason.{Reason}
+use Rattle.driver_fields.specs.declared.reason.Reason.TheVariants as reasons
 use Rattle.drivers.specs.declared.step.Step.{Step}
 use Rattle.drivers.specs.declared.step.Step.TheVariants as steps
 

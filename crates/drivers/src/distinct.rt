@@ -10,10 +10,10 @@ ghost use Rattle.drivers.specs.declared.plan.Wait.TheVariants as waits;
 use crate::answering::cursor_left;
 use crate::modifying::part_fault;
 use crate::plan::{Plan, Wait};
-use crate::reason::{Reason, refusal_reply};
 use crate::starting::unheard;
 use crate::step::Step;
 use bson::{Document, NoMemory, Value};
+use driver_fields::{Reason, refusal_reply};
 use driver_replies::{
     Distinct, collection_of, documents_in, find_values, get_more, key_of, text_or_none,
 };

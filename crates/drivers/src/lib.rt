@@ -2,18 +2,13 @@
 #![tactic(auto)]
 
 mod answering;
-mod cleaning;
-mod command;
 mod distinct;
 mod explaining;
 mod framing;
 mod handshake;
 pub mod laws;
 mod modifying;
-mod options;
 mod plan;
-mod reason;
-mod rules;
 mod server_info;
 mod starting;
 mod step;

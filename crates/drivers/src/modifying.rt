@@ -11,10 +11,10 @@ ghost use Rattle.drivers.specs.Starting.{part_fault, parts_fault, flag_fault, fl
 ghost use Rattle.drivers.specs.declared.plan.Wait.TheVariants as waits;
 
 use crate::plan::{Plan, Wait};
-use crate::reason::{Reason, refusal_reply};
 use crate::starting::unheard;
 use crate::step::Step;
 use bson::{Array, Document, NoMemory, Value};
+use driver_fields::{Reason, refusal_reply};
 use driver_replies::{
     Modification, Part, collection_of, find_first, find_one, first_batch, is_part, is_true,
     made_by, part_in, refused, subject_of, text_or_none,

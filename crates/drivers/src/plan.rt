@@ -12,14 +12,13 @@ ghost use Rattle.drivers.specs.declared.plan.Wait.TheVariants as waits;
 ghost use Rattle.drivers.specs.Answering.{is_single, kill_wait, collections_wait, batch_wait, write_wait, other_wait, wait_of, is_modification, plan_for, plan_in, plan_of, asks_alone, final, reworded, error_step, drop_next, drop_step, drop_listed, drop_on, next_statement, whole_step, statement_step, end_cursor, cursor_left, kill_next, killed, answered_by, answered};
 
 use crate::answering::{cursor_left, end, kill_command, reword, widen};
-use crate::cleaning::kept;
-use crate::command::Asked;
 use crate::distinct::distinct_wait;
 use crate::explaining::explained;
 use crate::server_info::ServerInfo;
 use crate::starting::{name_of, start, unheard};
 use crate::step::Step;
 use bson::{Array, Document, NoMemory, Text};
+use driver_fields::{Asked, kept};
 use driver_messages::Message;
 use driver_replies::{
     Batch, Distinct, FreshIds, Kills, Modification, Part, Tally, Write, collection_of,

@@ -6,18 +6,16 @@ ghost use Rattle.bson.specs.View.{tree};
 ghost use Rattle.std.specs.Option.{option_and_then};
 ghost use Rattle.driver_replies.specs.Cursors.{cursor_of, first_id, ids_of};
 ghost use Rattle.drivers.specs.Starting.{ask_owner, kill_first, list_first, ask_explain, name_of, ask_write, ask_unless, own_reply, do_command, do_query, do_fault, do_message, failure, unheard, started};
-ghost use Rattle.drivers.specs.Commands.{command_of};
-ghost use Rattle.drivers.specs.Cleaning.{first_refused};
+ghost use Rattle.driver_fields.specs.Commands.{command_of};
+ghost use Rattle.driver_fields.specs.Cleaning.{first_refused};
 
-use crate::cleaning::{first_refused, kept};
-use crate::command::{Asked, Command, Own, command_of};
 use crate::distinct::distinct_first;
 use crate::handshake::{build_reply, handshake_reply, ok_reply};
 use crate::modifying::modify_first;
-use crate::reason::{Reason, refusal_reply};
 use crate::server_info::ServerInfo;
 use crate::step::Step;
 use bson::{Document, NoMemory, Value};
+use driver_fields::{Asked, Command, Own, Reason, command_of, first_refused, kept, refusal_reply};
 use driver_messages::{BodyFault, Form, Message};
 use driver_replies::{
     Fact, FreshIds, cursor_of, document_of, first_id, ids_of, kill_one, list_command, set,

@@ -1,6 +1,6 @@
 use Rattle.std.proofs.Common.{refl}
-use Rattle.drivers.specs.Commands.{command_of}
-use Rattle.drivers.specs.Rules.{rule_of}
+use Rattle.driver_fields.specs.Commands.{command_of}
+use Rattle.driver_fields.specs.Rules.{rule_of}
 use Rattle.drivers.proofs.laws.rows.Goals as goal
 
 pub returns : goal.returns

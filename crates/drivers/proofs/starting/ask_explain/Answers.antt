@@ -4,9 +4,9 @@ use Rattle.bson.specs.Lookup.{lookup}
 use Rattle.bson.specs.Tree.{document}
 use Rattle.bson.specs.View.{tree}
 use Rattle.bson.specs.declared.value.Value.{Value}
-use Rattle.drivers.specs.declared.cleaning.Whose.TheVariants as whoses
-use Rattle.drivers.specs.declared.command.Asked.TheVariants as askeds
-use Rattle.drivers.proofs.CleaningLemmas.{own-levels}
+use Rattle.driver_fields.specs.declared.cleaning.Whose.TheVariants as whoses
+use Rattle.driver_fields.specs.declared.command.Asked.TheVariants as askeds
+use Rattle.driver_fields.proofs.CleaningLemmas.{own-levels}
 use Rattle.driver_replies.specs.LevelLaws.{inner-levels}
 use Rattle.drivers.proofs.starting.ask_explain.Goals as goal
 

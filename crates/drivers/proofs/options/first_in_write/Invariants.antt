@@ -1,7 +1,0 @@
-use Rattle.std.proofs.Common.{◌≡◌, drop}
-use Rattle.bson.specs.View.{pairs_of}
-use Rattle.drivers.specs.Rules.{first_in, write_option_fault}
-use Rattle.drivers.proofs.options.first_in_write.Given as goal
-
-abbrev pub invariant-pairs : goal.invariant-pairs
-invariant-pairs l = first_in write_option_fault (pairs_of (drop l.pair-index l.pairs)) ≡ first_in write_option_fault (pairs_of l.pairs)

@@ -1,6 +1,0 @@
-use Rattle.std.proofs.Common.{◌≡◌, drop, map}
-use Rattle.drivers.specs.Rules.{is_one_of}
-use Rattle.drivers.proofs.options.is_one_of.Given as goal
-
-abbrev pub invariant-words : goal.invariant-words
-invariant-words l = is_one_of (map (λ s. s.now) (drop l.word-index l.words)) l.text ≡ is_one_of (map (λ s. s.now) l.words) l.text
