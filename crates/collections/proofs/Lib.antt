@@ -13,6 +13,7 @@ pub mod LawLemmas
 pub mod MarkLemmas
 pub mod OpenLemmas
 pub mod OtherKeyLemmas
+pub mod PickingLemmas
 pub mod ReadingLemmas
 pub mod RememberingLemmas
 pub mod StandingLemmas

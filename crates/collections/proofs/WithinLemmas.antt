@@ -47,7 +47,7 @@ abbrev end_of : Bounds → Option (List ℕ)
 end_of texts = option_map (λ b. b.now) texts.to
 
 module _ (number : ℕ) (small : number < 2 ^ 32) where
-  same_place : (x y : List ℕ) → key_cmp (key_under number 0 x) (key_under number 0 y) ≡ key_cmp x y
+  pub same_place : (x y : List ℕ) → key_cmp (key_under number 0 x) (key_under number 0 y) ≡ key_cmp x y
   same_place x y =
       under_cmp number number 0 0 x y small small (omega arith) (omega arith)
       ∙ (λ i. ordering_then (tied_itself nat_cmp_total number i) (ordering_then (tied_itself nat_cmp_total 0 i) (key_cmp x y)))

@@ -12,6 +12,7 @@ pub mod Laws
 pub mod Marks
 pub mod Opening
 pub mod OtherKeys
+pub mod Picking
 pub mod ReadTexts
 pub mod Reading
 pub mod Remembering
