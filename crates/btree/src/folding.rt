@@ -16,8 +16,8 @@ use page::{Branch, Cell, Leaf, PageContent, Stored};
 use std::alloc::{AllocError, Global};
 use std::cmp::Ordering;
 use tree_model::{
-    Pages, TreeFault, branch_child, child_of_key, high_bound, is_within, leaf_cell, leaf_key,
-    lies_between, low_bound, place_of_end, place_of_key,
+    Pages, TreeFault, branch_child, branch_key, child_of_key, high_bound, is_within, leaf_cell,
+    leaf_key, lies_between, low_bound, place_of_end, place_of_key,
 };
 
 /// Keys from one up to below another, or to the end.
@@ -120,6 +120,40 @@ fn lend<P: Pages, F: Fold>(
     }
 }
 
+// The first cell whose key isn't below this one. Most leaves of a range begin within it, so the first cell is looked at first.
+fn first_cell(leaf: &Leaf, from: &[u8]) -> usize
+    ensures { IsPlace leaf.now from.now result }
+{
+    if leaf.len() == 0 || compare_keys(leaf_key(leaf, 0), from) != Ordering::Less {
+        return 0;
+    }
+    place_of_key(leaf, from)
+}
+
+// The first child in which a key may lie that isn't below this one. Most branches of a range begin within it too.
+fn first_child(branch: &Branch, from: &[u8]) -> usize
+    requires { 0 < length branch.now }
+    ensures { IsChildPlace branch.now from.now result }
+{
+    if branch.len() == 1 || compare_keys(from, branch_key(branch, 1)) == Ordering::Less {
+        return 0;
+    }
+    child_of_key(branch, from)
+}
+
+// The first cell whose key isn't below this one, where the cell at a place is: none, if the last cell is too.
+fn cell_behind(leaf: &Leaf, i: usize, key: &[u8]) -> usize
+    requires { i < length leaf.now }
+    ensures behind { i ≤ result }
+    ensures passed { (result ≡ i) ⊎ IsPlace leaf.now key.now result }
+{
+    let len = leaf.len();
+    match compare_keys(leaf_key(leaf, len - 1), key) {
+        Ordering::Less => len,
+        _ => place_of_key(leaf, key).max(i),
+    }
+}
+
 // The first cell from a place on that a fold wants which passes over what lies below a key.
 fn wanted_cell(leaf: &Leaf, i: usize, key: Option<&[u8]>) -> usize
     requires { i < length leaf.now }
@@ -131,7 +165,7 @@ fn wanted_cell(leaf: &Leaf, i: usize, key: Option<&[u8]>) -> usize
         return i;
     };
     match compare_keys(leaf_key(leaf, i), key) {
-        Ordering::Less => place_of_key(leaf, key).max(i),
+        Ordering::Less => cell_behind(leaf, i, key),
         _ => i,
     }
 }
@@ -173,7 +207,7 @@ fn fold_leaf<P: Pages, F: Fold>(
         (λ done. F.makes start (all ++ between bounds.entry (map entry_of pairs)) fold.new) result }
 {
     let end = place_of_end(leaf, bounds.to);
-    let mut i = place_of_key(leaf, bounds.from);
+    let mut i = first_cell(leaf, bounds.from);
     'cells: while i < end {
         if fold.is_done() {
             return Ok(());
@@ -228,7 +262,7 @@ fn fold_below<P: Pages, F: Fold>(
     if branch.len() == 0 {
         return Err(TreeFault::Length);
     }
-    let mut i = child_of_key(branch, bounds.from);
+    let mut i = first_child(branch, bounds.from);
     'children: while i < branch.len() {
         if fold.is_done() {
             return Ok(());

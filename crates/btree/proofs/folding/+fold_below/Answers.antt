@@ -53,7 +53,7 @@ children-init g t c =
           (sym (append-nil all)
           ∙ ap (λ es. all ++ es)
           (sym (none_before (g.P.Pages.store c.read.new.self) c.args.page c.args.level d c.args.low.now (option_map (λ b. b.now) c.args.high) subtrees _ e part
-          c.args.bounds.from.now (option_map (λ b. b.now) c.args.bounds.to) c.child_of_key-i.result c.child_of_key-i.ensures))) made;
+          c.args.bounds.from.now (option_map (λ b. b.now) c.args.bounds.to) c.first_child-i.result c.first_child-i.ensures))) made;
       lent = λ start h. h;
     }
 

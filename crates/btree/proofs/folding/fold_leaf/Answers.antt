@@ -22,7 +22,7 @@ cells-init g c =
           (sym (append-nil all)
           ∙ ap (λ es. all ++ es)
           (sym
-          (first_none c.args.bounds.from.now (option_map (λ b. b.now) c.args.bounds.to) _ pairs c.place_of_key-i.result e rise c.place_of_key-i.ensures)))
+          (first_none c.args.bounds.from.now (option_map (λ b. b.now) c.args.bounds.to) _ pairs c.first_cell-i.result e rise c.first_cell-i.ensures)))
           made;
       lent = λ start h. h;
     }
@@ -38,7 +38,7 @@ pub returns-then-end-at-clause-folds : goal.returns-then-end-at-clause-folds
 returns-then-end-at-clause-folds g c =
     λ start all pairs e rise shown made k.
     subst (λ es. g.F.Fold.makes start es c.cells.fold)
-    (all_taken c.args.bounds.from.now (option_map (λ b. b.now) c.args.bounds.to) _ pairs c.place_of_key-i.result e rise c.place_of_key-i.ensures
+    (all_taken c.args.bounds.from.now (option_map (λ b. b.now) c.args.bounds.to) _ pairs c.first_cell-i.result e rise c.first_cell-i.ensures
     c.place_of_end-end.result c.place_of_end-end.ensures c.wanted_cell-at.result (omega (arith, c.cells.invariant.behind, c.wanted_cell-at.ensures.behind))
     (omega arith) all)
     (passed_over (λ k. k.now) g.F.Fold.makes start c.cells.fold c.args.bounds.from.now (option_map (λ b. b.now) c.args.bounds.to) all
@@ -54,7 +54,7 @@ returns-in_err-lend-clause-folds g c =
     let to : Option (List ℕ) = option_map (λ b. b.now) c.args.bounds.to in
     let at : ℕ = c.wanted_cell-at.result in
     let w = (c.in_err-lend.ensures.grows.frame k).word in
-    let h = here from to _ pairs c.place_of_key-i.result e rise c.place_of_key-i.ensures
+    let h = here from to _ pairs c.first_cell-i.result e rise c.first_cell-i.ensures
     at (omega (arith, c.cells.invariant.behind, c.wanted_cell-at.ensures.behind)) (omega (arith, c.place_of_end-end.ensures.within)) _ c.leaf_cell.ensures in
     let now = shows_kept _ (g.P.Pages.store c.cells.pages) (c.cells.invariant.grows.frame w) zero pairs shown in
     let made_at = passed_over (λ k. k.now) g.F.Fold.makes start c.cells.fold from to all
@@ -77,7 +77,7 @@ cells-preserved g c =
           let to : Option (List ℕ) = option_map (λ b. b.now) c.args.bounds.to in
           let at : ℕ = c.wanted_cell-at.result in
           let w = (c.in_ok-lend.ensures.grows.frame k).word in
-          let h = here from to _ pairs c.place_of_key-i.result e rise c.place_of_key-i.ensures at
+          let h = here from to _ pairs c.first_cell-i.result e rise c.first_cell-i.ensures at
           (omega (arith, c.cells.invariant.behind, c.wanted_cell-at.ensures.behind)) (omega (arith, c.place_of_end-end.ensures.within)) _ c.leaf_cell.ensures in
           let now = shows_kept _ (g.P.Pages.store c.cells.pages) (c.cells.invariant.grows.frame w) zero pairs shown in
           let made_at = passed_over (λ k. k.now) g.F.Fold.makes start c.cells.fold from to all
@@ -85,7 +85,7 @@ cells-preserved g c =
           (λ key place. cells_passed key from to all c.args.leaf.now pairs c.cells.i at e rise c.wanted_cell-at.ensures.behind place)
           c.next_key.result c.next_key.ensures c.wanted_cell-at.ensures.passed (c.cells.invariant.made start all pairs e rise shown made w) in
           subst (λ es. g.F.Fold.makes start es c.lend.new.fold)
-          (goes_on _ _ _ pairs c.place_of_key-i.result e rise c.place_of_key-i.ensures at _ h all
+          (goes_on _ _ _ pairs c.first_cell-i.result e rise c.first_cell-i.ensures at _ h all
           (subst (λ (x : Pair). IsWithin to x.key) (h.stands h.pair)
           (before_end _ _ pairs _ e rise c.place_of_end-end.ensures at h.pair (omega arith))))
           (c.in_ok-lend.ensures.folds start _ h.pair h.is (h.chained _ now) made_at k);
@@ -96,6 +96,6 @@ pub returns-clause-folds : goal.returns-clause-folds
 returns-clause-folds g c =
     λ start all pairs e rise shown made k.
     subst (λ es. g.F.Fold.makes start es c.cells.fold)
-    (all_taken c.args.bounds.from.now (option_map (λ b. b.now) c.args.bounds.to) _ pairs c.place_of_key-i.result e rise c.place_of_key-i.ensures
+    (all_taken c.args.bounds.from.now (option_map (λ b. b.now) c.args.bounds.to) _ pairs c.first_cell-i.result e rise c.first_cell-i.ensures
     c.place_of_end-end.result c.place_of_end-end.ensures c.cells.i (omega (arith, c.cells.invariant.behind)) (omega arith) all)
     (c.cells.invariant.made start all pairs e rise shown made k)
