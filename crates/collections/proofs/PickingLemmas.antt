@@ -1,7 +1,7 @@
 -- Entries of some ascending keys, and what they make of a fold to which no others are lent.
-use Rattle.std.proofs.Common.{◌≡◌, ℕ, zero, suc, ◌<◌, ◌≤◌, ◌^◌, Bool, true, false, not, ◌&&◌, ◌||◌, List, [], ◌∷◌, ◌++◌, length, map, drop, get_or, ◌⊎◌, inl, inr, Option, Some, None}
+use Rattle.std.proofs.Common.{◌≡◌, ℕ, zero, suc, ◌+◌, ◌<◌, ◌≤◌, ◌^◌, Bool, true, false, not, ◌&&◌, ◌||◌, List, [], ◌∷◌, ◌++◌, length, map, drop, take, get_or, ◌⊎◌, inl, inr, Option, Some, None}
 use Rattle.std.proofs.Common.{refl, sym, ap, ◌∙◌, subst, arith, Result, Ok, Err}
-use Rattle.std.specs.Prelude.{All, MatchOption, cond, slice_index_or}
+use Rattle.std.specs.Prelude.{All, MatchOption, OnOk, cond, if◌then◌else◌, is_ok, slice_index_or}
 use Rattle.std.specs.Global.{Vec}
 use Rattle.std.specs.List.{AllPairs, filter}
 use Rattle.std.specs.Option.{option_map}
@@ -11,7 +11,6 @@ use Rattle.std.specs.declared.cmp.Ordering.{Ordering}
 use Rattle.std.specs.declared.cmp.Ordering.TheVariants.{Less, Equal, Greater}
 use Rattle.std.proofs.lemmas.Cmp.{tied_itself}
 use Rattle.std.proofs.lemmas.Map.Lookups.{exact_bytes}
-use Rattle.std.proofs.lemmas.List.{get_or-map}
 use Rattle.std.proofs.lemmas.List.Elements.{All-filter}
 use Rattle.bson.specs.Tree.{Pairs}
 use Rattle.page.specs.History.{History}
@@ -23,7 +22,6 @@ use Rattle.tree_model.specs.Keys.{Each, Entry, IsUnder, Rises, is_within, keep_i
 use Rattle.tree_model.proofs.KeyLemmas.{under_trans}
 use Rattle.tree_model.proofs.ListLemmas.{each_map, each_of_map}
 use Rattle.index.specs.Changes.{is_among}
-use Rattle.index.specs.View.{texts_of}
 use Rattle.path.specs.declared.refusal.Refusal.{Refusal}
 use Rattle.path.specs.declared.refusal.Refusal.TheVariants as refusals
 use Rattle.entry_model.specs.LawfulState.{IsKept, IsStorable}
@@ -35,14 +33,14 @@ use Rattle.entries.specs.Batches.{documents_at}
 use Rattle.entries.proofs.HomeLemmas.{number_fits}
 use Rattle.collections.specs.Below.{IsNothing, ReadsBelow}
 use Rattle.collections.specs.Folding.{Lends}
-use Rattle.collections.specs.Picking.{IsAskedFor, Picks, Stays, after, after_by, documents_among, left, meets, meets_by, picked, wanted}
+use Rattle.collections.specs.Picking.{IsAskedFor, IsKeyed, IsNextKey, IsPassedTo, Picks, Stays, after, after_by, documents_among, keys_of, left, meets, meets_by, picked, wanted}
 use Rattle.collections.specs.Reading.{IsInTree}
 use Rattle.collections.specs.State.{State}
 use Rattle.collections.specs.declared.folding.Lending.{Lending}
 use Rattle.collections.specs.declared.picking.Picking.{Picking}
 use Rattle.collections.proofs.BelowLemmas.{below_on}
 use Rattle.collections.proofs.FoldingLemmas.{AnswersWith, answered, lent_documents}
-use Rattle.collections.proofs.WithinLemmas.{not_before, same_place}
+use Rattle.collections.proofs.WithinLemmas.{below_next, not_before, same_place}
 
 -- ---- keys and entries, part after part
 
@@ -93,17 +91,38 @@ drop_all [] (suc n) le = refl
 drop_all (x ∷ xs) zero le = absurd (omega arith)
 drop_all (x ∷ xs) (suc n) le = drop_all xs n (omega arith)
 
-long_texts : (ks : List (Vec ℕ)) → length (texts_of ks) ≡ length ks
-long_texts [] = refl
-long_texts (k ∷ ks) = ap suc (long_texts ks)
+long_keys : (number : ℕ) (ts : List (Vec ℕ)) → length (keys_of number ts) ≡ length ts
+long_keys number [] = refl
+long_keys number (t ∷ ts) = ap suc (long_keys number ts)
 
 nothing_more : (es : List Entry) → es ++ [] ≡ es
 nothing_more [] = refl
 nothing_more (e ∷ es) = ap (λ zs. e ∷ zs) (nothing_more es)
 
--- once all keys are passed none is wanted
-pub none_wanted : {F : Type 0} (now : Picking F) → length now.keys.now ≤ now.passed → wanted now ≡ []
-none_wanted now done = drop_all (texts_of now.keys.now) now.passed (omega (arith, done, long_texts now.keys.now))
+-- once all texts are passed no key is wanted
+pub none_left_of : (number passed : ℕ) (ts : List (Vec ℕ)) → length ts ≤ passed → drop passed (keys_of number ts) ≡ []
+none_left_of number passed ts done = drop_all (keys_of number ts) passed (omega (arith, done, long_keys number ts))
+
+pub none_keyed : (key : List ℕ) (ks : List (List ℕ)) → ks ≡ [] → IsKeyed key ks
+none_keyed key [] none = tt
+none_keyed key (k ∷ ks) none = absurd cc
+
+-- the next key, and those behind it
+pub drop_next : (key : List ℕ) (ks : List (List ℕ)) (i : ℕ) → IsKeyed key (drop i ks) → i < length ks → drop i ks ≡ key ∷ drop (suc i) ks
+drop_next key [] i keyed lt = absurd (omega (arith, lt))
+drop_next key (k ∷ ks) zero keyed lt = ap (λ z. z ∷ ks) (sym keyed)
+drop_next key (k ∷ ks) (suc i) keyed lt = drop_next key ks i keyed (omega (arith, lt))
+
+pub next_here : (number passed : ℕ) (ts : List (Vec ℕ)) (key : List ℕ) → IsKeyed key (drop passed (keys_of number ts)) → passed < length ts
+    → drop passed (keys_of number ts) ≡ key ∷ drop (suc passed) (keys_of number ts)
+next_here number passed ts key keyed lt = drop_next key (keys_of number ts) passed keyed (omega (arith, lt, long_keys number ts))
+
+-- what is at a place of the texts, or none
+pub keyed_at : (number : ℕ) (ts : List (Vec ℕ)) (i : ℕ) (t : Vec ℕ) (key : List ℕ) → i < length ts → ((d : Vec ℕ) → t ≡ slice_index_or ts i d)
+    → key ≡ key_under number 0 t.items → IsKeyed key (drop i (keys_of number ts))
+keyed_at number [] i t key lt is so = absurd (omega (arith, lt))
+keyed_at number (u ∷ ts) zero t key lt is so = so ∙ ap (λ (v : Vec ℕ). key_under number 0 v.items) (is t)
+keyed_at number (u ∷ ts) (suc i) t key lt is so = keyed_at number ts i t key (omega (arith, lt)) is so
 
 module _ {F : Type 0} (makes : F → List Pairs → F → Type 0) (start now : Picking F) (all : List Entry) (h : Picks makes start all now) where
   -- nothing of what follows is picked, and no key is passed
@@ -112,7 +131,9 @@ module _ {F : Type 0} (makes : F → List Pairs → F → Type 0) (start now : P
     where
       by : (wanted now ≡ left (wanted start) all) ⊎ ((wanted now ≡ []) × Stays makes now.lending) → Picks makes start (all ++ more) now
       by (inl is) = record {
-        same = h.same;
+        number = h.number;
+        texts = h.texts;
+        next = h.next;
         rest = inl (sym (left_on (wanted start) all more ∙ ap (λ l. left l more) (sym is) ∙ kept));
         lent = subst (λ es. Lends makes start.lending es now.lending)
             (sym (picked_on (wanted start) all more ∙ ap (λ l. picked (wanted start) all ++ picked l more) (sym is)
@@ -120,47 +141,63 @@ module _ {F : Type 0} (makes : F → List Pairs → F → Type 0) (start now : P
             h.lent;
       }
       by (inr (gone, stays)) = record {
-        same = h.same;
+        number = h.number;
+        texts = h.texts;
+        next = h.next;
         rest = inr (gone, stays);
         lent = subst (λ es. Lends makes start.lending es now.lending) (sym (picked_on (wanted start) all more))
             (stays start.lending (picked (wanted start) all) (picked (left (wanted start) all) more) h.lent);
       }
 
-  pub passes_all : length now.keys.now ≤ now.passed → (more : List Entry) → Picks makes start (all ++ more) now
+  pub passes_all : length now.texts.now ≤ now.passed → (more : List Entry) → Picks makes start (all ++ more) now
   passes_all done more =
-      let none : wanted now ≡ [] = none_wanted now done in
+      let none : wanted now ≡ [] = none_left_of now.number now.passed now.texts.now done in
       passes more (ap (λ l. picked l more) none ∙ none_picked more) (ap (λ l. left l more) none ∙ none_left more ∙ sym none)
 
-  pub passes_under : (k : List ℕ) (ks : List (List ℕ)) → wanted now ≡ k ∷ ks → (more : List Entry) → Each (λ (x : Entry). IsUnder x.key k) more
+  pub passes_under : now.passed < length now.texts.now → (more : List Entry) → Each (λ (x : Entry). IsUnder x.key now.key.items) more
       → Picks makes start (all ++ more) now
-  passes_under k ks is more under =
+  passes_under some more under =
+      let k = now.key.items in
+      let ks : List (List ℕ) = drop (suc now.passed) (keys_of now.number now.texts.now) in
+      let is : wanted now ≡ k ∷ ks = next_here now.number now.passed now.texts.now k h.next.keyed some in
       passes more (ap (λ l. picked l more) is ∙ under_picked k ks more under) (ap (λ l. left l more) is ∙ under_left k ks more under ∙ sym is)
 
-  module _ (x : Entry) (next : ℕ) (rest : drop next (texts_of now.keys.now) ≡ after x.key (wanted now)) where
+  module _ (x : Entry) (next : ℕ) (key : Vec ℕ) (b : Bool)
+      (to : IsPassedTo now.number x.key (wanted now) (drop next (keys_of now.number now.texts.now)) key.items b) where
     -- an entry that isn't picked
-    pub passes_one : meets (wanted now) x.key ≡ false → Picks makes start (all ++ x ∷ []) (record now { passed = next })
-    passes_one missed = by h.rest
+    pub passes_one : b ≡ false → Picks makes start (all ++ x ∷ []) (record now { passed = next; key = key })
+    passes_one is_missed = by h.rest
       where
+        missed : meets (wanted now) x.key ≡ false
+        missed = sym to.met ∙ is_missed
+
         by : (wanted now ≡ left (wanted start) all) ⊎ ((wanted now ≡ []) × Stays makes now.lending)
-            → Picks makes start (all ++ x ∷ []) (record now { passed = next })
+            → Picks makes start (all ++ x ∷ []) (record now { passed = next; key = key })
         by (inl is) = record {
-          same = h.same;
-          rest = inl (rest ∙ ap (after x.key) is ∙ sym (left_on (wanted start) all (x ∷ [])));
+          number = h.number;
+          texts = h.texts;
+          next = to.first;
+          rest = inl (to.rest ∙ ap (after x.key) is ∙ sym (left_on (wanted start) all (x ∷ [])));
           lent = subst (λ es. Lends makes start.lending es now.lending)
               (sym (picked_on (wanted start) all (x ∷ []) ∙ ap (λ l. picked (wanted start) all ++ picked l (x ∷ [])) (sym is)
               ∙ ap (λ b. picked (wanted start) all ++ keep_if b x []) missed ∙ nothing_more (picked (wanted start) all)))
               h.lent;
         }
         by (inr (gone, stays)) = record {
-          same = h.same;
-          rest = inr (rest ∙ ap (after x.key) gone, stays);
+          number = h.number;
+          texts = h.texts;
+          next = to.first;
+          rest = inr (to.rest ∙ ap (after x.key) gone, stays);
           lent = subst (λ es. Lends makes start.lending es now.lending) (sym (picked_on (wanted start) all (x ∷ [])))
               (stays start.lending (picked (wanted start) all) (picked (left (wanted start) all) (x ∷ [])) h.lent);
         }
 
-    module _ (met : meets (wanted now) x.key ≡ true) (lending : Lending F)
+    module _ (is_met : b ≡ true) (lending : Lending F)
         (takes : Lends makes start.lending (picked (wanted start) all) now.lending
         → Lends makes start.lending (picked (wanted start) all ++ x ∷ []) lending) where
+      met : meets (wanted now) x.key ≡ true
+      met = sym to.met ∙ is_met
+
       is_left : wanted now ≡ left (wanted start) all
       is_left = by h.rest
         where
@@ -174,37 +211,86 @@ module _ {F : Type 0} (makes : F → List Pairs → F → Type 0) (start now : P
           ∙ ap (λ b. picked (wanted start) all ++ keep_if b x []) met)) (takes h.lent)
 
       -- one that is picked
-      pub takes_one : Picks makes start (all ++ x ∷ []) (record now { passed = next; lending = lending })
-      takes_one = record { same = h.same; rest = inl (rest ∙ ap (after x.key) is_left ∙ sym (left_on (wanted start) all (x ∷ []))); lent = lent_one }
-
-      -- and the last
-      pub takes_last : Stays makes lending
-          → Picks makes start (all ++ x ∷ []) (record now { passed = length now.keys.now; lending = lending })
-      takes_last stays = record {
-        same = h.same;
-        rest = inr (drop_all (texts_of now.keys.now) (length now.keys.now) (omega (arith, long_texts now.keys.now)), stays);
+      pub takes_one : Picks makes start (all ++ x ∷ []) (record now { passed = next; key = key; lending = lending })
+      takes_one = record {
+        number = h.number;
+        texts = h.texts;
+        next = to.first;
+        rest = inl (to.rest ∙ ap (after x.key) is_left ∙ sym (left_on (wanted start) all (x ∷ [])));
         lent = lent_one;
       }
 
+      -- and the last
+      pub takes_last : Stays makes lending
+          → Picks makes start (all ++ x ∷ []) (record now { passed = length now.texts.now; key = key; lending = lending })
+      takes_last stays =
+          let none = none_left_of now.number (length now.texts.now) now.texts.now (omega arith) in
+          record {
+            number = h.number;
+            texts = h.texts;
+            next = record {
+              front = to.first.front;
+              keyed = none_keyed key.items (drop (length now.texts.now) (keys_of now.number now.texts.now)) none;
+            };
+            rest = inr (none, stays);
+            lent = lent_one;
+          }
+
 -- before any entry
-pub picks_none : {F : Type 0} (makes : F → List Pairs → F → Type 0) (start : Picking F) → Lends makes start.lending [] start.lending
-    → Picks makes start [] start
-picks_none makes start lent = record { same = refl; rest = inl refl; lent = lent }
+pub picks_none : {F : Type 0} (makes : F → List Pairs → F → Type 0) (start : Picking F) → IsNextKey start.number start.key.items (wanted start)
+    → Lends makes start.lending [] start.lending → Picks makes start [] start
+picks_none makes start next lent = record { number = refl; texts = refl; next = next; rest = inl refl; lent = lent }
 
--- ---- a place among the keys
+-- ---- the next key
 
-pub drop_here : {X : Type 0} (xs : List X) (i : ℕ) (x : X) → i < length xs → ((d : X) → x ≡ get_or xs i d) → drop i xs ≡ x ∷ drop (suc i) xs
-drop_here [] i x lt is = absurd (omega arith)
-drop_here (y ∷ xs) zero x lt is = ap (λ z. z ∷ xs) (sym (is y))
-drop_here (y ∷ xs) (suc i) x lt is = drop_here xs i x (omega arith) is
+-- Some keys below an entry's were passed: nothing is different for it.
+pub record ComeTo (number : ℕ) (key : List ℕ) (before left : List (List ℕ)) (next : List ℕ) : Type 0 where
+  pub first : IsNextKey number next left
+  pub rest : after key left ≡ after key before
+  pub met : meets left key ≡ meets before key
 
-module _ (keys : List (Vec ℕ)) (i : ℕ) (k : Vec ℕ) (lt : i < length keys) (is : k ≡ slice_index_or keys i k) where
-  pub texts_here : drop i (texts_of keys) ≡ k.items ∷ drop (suc i) (texts_of keys)
-  texts_here = drop_here (texts_of keys) i k.items (omega (arith, lt, long_texts keys)) (λ d. sym (text_at keys i k d lt is))
-    where
-      text_at : (ids : List (Vec ℕ)) (k : ℕ) (id : Vec ℕ) (t : List ℕ) → k < length ids → id ≡ slice_index_or ids k id
-          → slice_index_or (texts_of ids) k t ≡ id.items
-      text_at ids k id t within is = get_or-map (λ (v : Vec ℕ). v.items) ids k id t within ∙ ap (λ (v : Vec ℕ). v.items) (sym is)
+-- of one text or none
+pub none_next : (number place : ℕ) (ts : List (Vec ℕ)) (key : List ℕ) → take 8 key ≡ key_under number 0 [] → length ts ≤ place
+    → IsNextKey number key (drop place (keys_of number ts))
+none_next number place ts key front done =
+    record { front = front; keyed = none_keyed key (drop place (keys_of number ts)) (none_left_of number place ts done) }
+
+pub text_next : {E : Type 0} (number place : ℕ) (ts : List (Vec ℕ)) (t : Vec ℕ) (r : Result (Unit {0}) E) (before key : List ℕ) → place < length ts
+    → ((d : Vec ℕ) → t ≡ slice_index_or ts place d) → before ≡ key_under number 0 [] → key ≡ (if is_ok r then before ++ t.items else before)
+    → OnOk r (IsNextKey number key (drop place (keys_of number ts)))
+text_next number place ts t (Ok u) before key lt is front made =
+    let whole : key ≡ key_under number 0 t.items = made ∙ ap (λ k. k ++ t.items) front in
+    record { front = ap (take 8) whole; keyed = keyed_at number ts place t key lt is whole }
+text_next number place ts t (Err e) before key lt is front made = tt
+
+module _ (number passed : ℕ) (ts : List (Vec ℕ)) (next key : List ℕ) (some : passed < length ts)
+    (so : IsNextKey number next (drop passed (keys_of number ts))) where
+  abbrev rest : List (List ℕ)
+  rest = drop (suc passed) (keys_of number ts)
+
+  here : drop passed (keys_of number ts) ≡ next ∷ rest
+  here = next_here number passed ts next so.keyed some
+
+  behind : drop (passed + 1) (keys_of number ts) ≡ rest
+  behind = let one : passed + 1 ≡ suc passed = omega arith in ap (λ n. drop n (keys_of number ts)) one
+
+  pub less_after : key_cmp next key ≡ Less → after key (drop (passed + 1) (keys_of number ts)) ≡ after key (drop passed (keys_of number ts))
+  less_after less = ap (after key) behind ∙ sym (ap (λ o. after_by o next rest (after key rest)) less) ∙ ap (after key) (sym here)
+
+  pub less_met : key_cmp next key ≡ Less → meets (drop (passed + 1) (keys_of number ts)) key ≡ meets (drop passed (keys_of number ts)) key
+  less_met less = ap (λ l. meets l key) behind ∙ sym (ap (λ o. meets_by o (meets rest key)) less) ∙ ap (λ l. meets l key) (sym here)
+
+  pub equal_after : key_cmp next key ≡ Equal → drop (passed + 1) (keys_of number ts) ≡ after key (drop passed (keys_of number ts))
+  equal_after equal = behind ∙ sym (ap (λ o. after_by o next rest (after key rest)) equal) ∙ ap (after key) (sym here)
+
+  pub equal_met : key_cmp next key ≡ Equal → true ≡ meets (drop passed (keys_of number ts)) key
+  equal_met equal = sym (ap (λ o. meets_by o (meets rest key)) equal) ∙ ap (λ l. meets l key) (sym here)
+
+  pub greater_after : key_cmp next key ≡ Greater → drop passed (keys_of number ts) ≡ after key (drop passed (keys_of number ts))
+  greater_after greater = here ∙ sym (ap (λ o. after_by o next rest (after key rest)) greater) ∙ ap (after key) (sym here)
+
+  pub greater_met : key_cmp next key ≡ Greater → false ≡ meets (drop passed (keys_of number ts)) key
+  greater_met greater = sym (ap (λ o. meets_by o (meets rest key)) greater) ∙ ap (λ l. meets l key) (sym here)
 
 -- ---- ascending keys
 
@@ -263,18 +349,14 @@ picked_among ks (x ∷ xs) rise up =
 
 -- ---- the keys of some texts
 
-each_keys_window : (P : List ℕ → Type 0) (from : List ℕ) (to : Option (List ℕ)) (xs : List Entry) → Each P (entry_keys xs)
-    → Each P (entry_keys (window from to xs))
-each_keys_window P from to [] h = tt
-each_keys_window P from to (x ∷ xs) h =
-    elim (not (is_lt (key_cmp x.key from)) && is_within to x.key) as (λ b. Each P (entry_keys (keep_if b x (window from to xs))))
-    [ true ↦ (h.0, each_keys_window P from to xs h.1) | false ↦ each_keys_window P from to xs h.1 ]
-
-rises_window : (from : List ℕ) (to : Option (List ℕ)) (xs : List Entry) → Rises (entry_keys xs) → Rises (entry_keys (window from to xs))
-rises_window from to [] h = tt
-rises_window from to (x ∷ xs) h =
-    elim (not (is_lt (key_cmp x.key from)) && is_within to x.key) as (λ b. Rises (entry_keys (keep_if b x (window from to xs))))
-    [ true ↦ (each_keys_window (IsUnder x.key) from to xs h.0, rises_window from to xs h.1) | false ↦ rises_window from to xs h.1 ]
+-- all entries lie from the least key on
+whole_window : (xs : List Entry) → window [] None xs ≡ xs
+whole_window [] = refl
+whole_window (x ∷ xs) = (λ i. keep_if (not (none_below x.key i) && true) x (whole_window xs i))
+  where
+    none_below : (key : List ℕ) → is_lt (key_cmp key []) ≡ false
+    none_below [] = refl
+    none_below (b ∷ key) = refl
 
 each_over : (t : List ℕ) (ts : List (List ℕ)) → ((k : ℕ) → k < length ts → bytes_cmp t (get_or ts k t) ≡ Less) → Each (IsUnder t) ts
 each_over t [] h = tt
@@ -317,6 +399,25 @@ module _ (number : ℕ) (small : number < 2 ^ 32) where
       by true = refl
       by false = refl
 
+-- such a key lies in the range of the documents
+key_inside : (number : ℕ) (small : number < 2 ^ 32) (ts : List (List ℕ)) (key : List ℕ) → is_among (map (key_under number 0) ts) key ≡ true
+    → (not (is_lt (key_cmp key (key_under number 0 []))) && is_within (Some (key_under number 1 [])) key) ≡ true
+key_inside number small [] key there = absurd cc
+key_inside number small (t ∷ ts) key there = by (key_cmp key (key_under number 0 t)) refl there (key_inside number small ts key)
+  where
+    here : key ≡ key_under number 0 t → (not (is_lt (key_cmp key (key_under number 0 []))) && is_within (Some (key_under number 1 [])) key) ≡ true
+    here is =
+        (λ i. not (is_lt (key_cmp (is i) (key_under number 0 []))) && is_lt (key_cmp (is i) (key_under number 1 [])))
+        ∙ (λ i. not (not_below_first number t i) && is_lt (below_next number small t i))
+
+    by : (o : Ordering) → key_cmp key (key_under number 0 t) ≡ o → (is_eq o || is_among (map (key_under number 0) ts) key) ≡ true
+        → (is_among (map (key_under number 0) ts) key ≡ true
+        → (not (is_lt (key_cmp key (key_under number 0 []))) && is_within (Some (key_under number 1 [])) key) ≡ true)
+        → (not (is_lt (key_cmp key (key_under number 0 []))) && is_within (Some (key_under number 1 [])) key) ≡ true
+    by Equal e there later = here (exact_bytes key (key_under number 0 t) e)
+    by Less e there later = later there
+    by Greater e there later = later there
+
 pub among_shorter : (texts : List (List ℕ)) (ds : List Pairs) → length (documents_among texts ds) ≤ length ds
 among_shorter texts [] = omega arith
 among_shorter texts (d ∷ ds) = by (is_among texts (tree_text (key_of d))) (among_shorter texts ds)
@@ -326,11 +427,44 @@ among_shorter texts (d ∷ ds) = by (is_among texts (tree_text (key_of d))) (amo
     by true later = omega (arith, later)
     by false later = omega (arith, later)
 
+-- those that have one of the keys lie in the range of the documents
+among_window : (number : ℕ) (small : number < 2 ^ 32) (ts : List (List ℕ)) (xs : List Entry)
+    → filter (λ (x : Entry). is_among (map (key_under number 0) ts) x.key) (window (key_under number 0 []) (Some (key_under number 1 [])) xs)
+    ≡ filter (λ (x : Entry). is_among (map (key_under number 0) ts) x.key) xs
+among_window number small ts [] = refl
+among_window number small ts (x ∷ xs) = by (is_among keys x.key) refl (among_window number small ts xs)
+  where
+    keys : List (List ℕ)
+    keys = map (key_under number 0) ts
+
+    from : List ℕ
+    from = key_under number 0 []
+
+    to : Option (List ℕ)
+    to = Some (key_under number 1 [])
+
+    inside : is_among keys x.key ≡ true → (not (is_lt (key_cmp x.key from)) && is_within to x.key) ≡ true
+    inside there = key_inside number small ts x.key there
+
+    by : (b : Bool) → is_among keys x.key ≡ b
+        → filter (λ (y : Entry). is_among keys y.key) (window from to xs) ≡ filter (λ (y : Entry). is_among keys y.key) xs
+        → filter (λ (y : Entry). is_among keys y.key) (keep_if (not (is_lt (key_cmp x.key from)) && is_within to x.key) x (window from to xs))
+        ≡ cond (is_among keys x.key) (x ∷ filter (λ (y : Entry). is_among keys y.key) xs) (filter (λ (y : Entry). is_among keys y.key) xs)
+    by true is later =
+        (λ i. filter (λ (y : Entry). is_among keys y.key) (keep_if (inside is i) x (window from to xs)))
+        ∙ (λ i. cond (is_among keys x.key) (x ∷ later i) (later i))
+    by false is later =
+        elim (not (is_lt (key_cmp x.key from)) && is_within to x.key) as
+        (λ o. filter (λ (y : Entry). is_among keys y.key) (keep_if o x (window from to xs))
+        ≡ cond (is_among keys x.key) (x ∷ filter (λ (y : Entry). is_among keys y.key) xs) (filter (λ (y : Entry). is_among keys y.key) xs)) [
+          | true ↦ (λ i. cond (is_among keys x.key) (x ∷ later i) (later i))
+          | false ↦ later ∙ (λ i. cond (sym is i) (x ∷ filter (λ (y : Entry). is_among keys y.key) xs) (filter (λ (y : Entry). is_among keys y.key) xs))
+        ]
+
 -- ---- the documents of a collection
 
 module _ {D F : Type 0} (history : D → History) (makes : F → List Pairs → F → Type 0) (start now : Picking F) (bounds : Bounds) (texts : List (List ℕ))
-    (number root : ℕ) (old new : State D) (from : bounds.from.now ≡ key_under number 0 [])
-    (to : option_map (λ b. b.now) bounds.to ≡ Some (key_under number 1 [])) (keys : wanted start ≡ map (key_under number 0) texts)
+    (number root : ℕ) (old new : State D) (from : bounds.from.now ≡ []) (to : option_map (λ b. b.now) bounds.to ≡ None) (keys : wanted start ≡ map (key_under number 0) texts)
     (reads : ReadsBelow history root IsNothing
     (λ cs asked. IsInTree (λ entries (u : Unit {0}). Picks makes start (between bounds entries) now) cs) (Ok tt) old new) where
   module _ (cs : List Collection) (c : Collection) (so : IsAskedFor number texts cs c)
@@ -344,20 +478,22 @@ module _ {D F : Type 0} (history : D → History) (makes : F → List Pairs → 
     abbrev asked : List Pairs
     asked = documents_among texts c.documents
 
-    listed : between bounds p.entries ≡ map (document_entry c.number) c.documents
+    abbrev among : List Entry → List Entry
+    among xs = filter (λ (x : Entry). is_among (map (key_under c.number 0) texts) x.key) xs
+
+    listed : window (key_under c.number 0 []) (Some (key_under c.number 1 [])) p.entries ≡ map (document_entry c.number) c.documents
     listed =
-        (λ i. window (from i) (to i) p.entries)
-        ∙ (λ i. window (key_under (sym so.numbered.same i) 0 []) (Some (key_under (sym so.numbered.same i) 1 [])) p.entries)
-        ∙ lists_documents_from p.entries cs c (key_under c.number 0 []) (record { lawful = p.state; spells = p.spells }) so.numbered.found
+        lists_documents_from p.entries cs c (key_under c.number 0 []) (record { lawful = p.state; spells = p.spells }) so.numbered.found
         (not_before c.number small [])
         ∙ ap (map (document_entry c.number)) (all_at c.number c.documents)
 
     chosen : picked (wanted start) (between bounds p.entries) ≡ map (document_entry c.number) asked
     chosen =
-        ap (λ ks. picked ks (between bounds p.entries)) (keys ∙ (λ i. map (key_under (sym so.numbered.same i) 0) texts))
-        ∙ picked_among (map (key_under c.number 0) texts) (between bounds p.entries) (rises_keys c.number small texts (rises_of texts so.ascending))
-        (rises_window bounds.from.now (option_map (λ b. b.now) bounds.to) p.entries p.spells.rises)
-        ∙ ap (filter (λ (x : Entry). is_among (map (key_under c.number 0) texts) x.key)) listed ∙ entries_among c.number small texts c.documents
+        (λ i. picked (wanted start) (window (from i) (to i) p.entries))
+        ∙ ap (picked (wanted start)) (whole_window p.entries)
+        ∙ ap (λ ks. picked ks p.entries) (keys ∙ (λ i. map (key_under (sym so.numbered.same i) 0) texts))
+        ∙ picked_among (map (key_under c.number 0) texts) p.entries (rises_keys c.number small texts (rises_of texts so.ascending)) p.spells.rises
+        ∙ sym (among_window c.number small texts p.entries) ∙ ap among listed ∙ entries_among c.number small texts c.documents
 
     lent : MatchOption now.lending.refused (makes start.lending.fold asked now.lending.fold) (λ e. e ≡ refusals.OutOfMemory)
     lent =

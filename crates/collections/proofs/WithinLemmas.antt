@@ -52,7 +52,7 @@ module _ (number : ℕ) (small : number < 2 ^ 32) where
       under_cmp number number 0 0 x y small small (omega arith) (omega arith)
       ∙ (λ i. ordering_then (tied_itself nat_cmp_total number i) (ordering_then (tied_itself nat_cmp_total 0 i) (key_cmp x y)))
 
-  below_next : (x : List ℕ) → key_cmp (key_under number 0 x) (key_under number 1 []) ≡ Less
+  pub below_next : (x : List ℕ) → key_cmp (key_under number 0 x) (key_under number 1 []) ≡ Less
   below_next x =
       under_cmp number number 0 1 x [] small small (omega arith) (omega arith)
       ∙ (λ i. ordering_then (tied_itself nat_cmp_total number i) (ordering_then (nat_cmp 0 1) (key_cmp x [])))

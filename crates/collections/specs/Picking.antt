@@ -1,5 +1,6 @@
 -- Documents of some `_id`s that are lent, where what lies between them is passed over.
-use Rattle.std.specs.Prelude.{◌≡◌, ◌⊎◌, ℕ, Bool, true, false, List, [], ◌∷◌, ◌++◌, drop}
+use Rattle.std.specs.Prelude.{◌≡◌, ◌⊎◌, ℕ, ⊤, Bool, true, false, List, [], ◌∷◌, ◌++◌, drop, map, take}
+use Rattle.std.specs.Global.{Vec}
 use Rattle.std.specs.List.{AllPairs, filter}
 use Rattle.std.specs.declared.cmp.Ordering.{Ordering}
 use Rattle.std.specs.declared.cmp.Ordering.TheVariants.{Less, Equal, Greater}
@@ -8,8 +9,8 @@ use Rattle.value_order.specs.KeyText.{tree_text}
 use Rattle.value_order.specs.Order.{bytes_cmp}
 use Rattle.tree_model.specs.Keys.{Entry, keep_if, key_cmp}
 use Rattle.index.specs.Changes.{is_among}
-use Rattle.index.specs.View.{texts_of}
 use Rattle.entry_model.specs.State.{Collection, key_of}
+use Rattle.entry_model.specs.StateEntries.{key_under}
 use Rattle.collections.specs.Folding.{Lends}
 use Rattle.collections.specs.Reading.{IsNumbered}
 use Rattle.collections.specs.declared.folding.Lending.{Lending}
@@ -56,9 +57,31 @@ abbrev pub left : List (List ℕ) → List Entry → List (List ℕ)
 left keys [] = keys
 left keys (x ∷ xs) = left (after x.key keys) xs
 
+-- the keys of the documents of some texts
+abbrev pub keys_of : ℕ → List (Vec ℕ) → List (List ℕ)
+keys_of number texts = map (λ text. key_under number 0 text.items) texts
+
+-- it is the first of these keys, where there is one
+abbrev pub IsKeyed : List ℕ → List (List ℕ) → Type 0
+IsKeyed key [] = ⊤
+IsKeyed key (k ∷ ks) = key ≡ k
+
+-- It is the key of a document of the collection, and that of the first of these, where there is one.
+pub record IsNextKey (number : ℕ) (key : List ℕ) (keys : List (List ℕ)) : Type 0 where
+  pub front : take 8 key ≡ key_under number 0 []
+  pub keyed : IsKeyed key keys
+
+-- The keys up to an entry's were passed: which are left, which is the next, and whether the entry
+-- has the last of them.
+pub record IsPassedTo (number : ℕ) (key : List ℕ) (before left : List (List ℕ)) (next : List ℕ)
+    (has : Bool) : Type 0 where
+  pub first : IsNextKey number next left
+  pub rest : left ≡ after key before
+  pub met : has ≡ meets before key
+
 -- the keys that aren't passed yet
 abbrev pub wanted : {F : Type 0} → Picking F → List (List ℕ)
-wanted picking = drop picking.passed (texts_of picking.keys.now)
+wanted picking = drop picking.passed (keys_of picking.number picking.texts.now)
 
 -- It stays as it is, whatever else it is lent.
 abbrev pub Stays : {F : Type 0} → (F → List Pairs → F → Type 0) → Lending F → Type 0
@@ -70,7 +93,9 @@ Stays {F} makes lending =
 -- is wanted.
 pub record Picks {F : Type 0} (makes : F → List Pairs → F → Type 0) (start : Picking F)
     (entries : List Entry) (now : Picking F) : Type 0 where
-  pub same : now.keys ≡ start.keys
+  pub number : now.number ≡ start.number
+  pub texts : now.texts ≡ start.texts
+  pub next : IsNextKey now.number now.key.items (wanted now)
   pub rest : (wanted now ≡ left (wanted start) entries)
       ⊎ ((wanted now ≡ []) × Stays makes now.lending)
   pub lent : Lends makes start.lending (picked (wanted start) entries) now.lending

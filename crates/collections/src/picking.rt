@@ -1,46 +1,90 @@
 //! The documents of some `_id`s, lent one after the other while their page is borrowed: what lies between them is passed over.
 
-ghost use Rattle.std.specs.Prelude.{◌≡◌, [], IfOk, drop, map};
+ghost use Rattle.std.specs.Prelude.{◌≡◌, ◌<◌, ◌+◌, [], IfOk, None, OnOk, drop, length, option_map, take};
 ghost use Rattle.entry_model.specs.StateEntries.{key_under};
 ghost use Rattle.index.specs.View.{texts_of};
 ghost use Rattle.collections.specs.Folding.{HasTaken, IsFolded};
-ghost use Rattle.collections.specs.Picking.{IsAskedFor, after, documents_among, meets};
+ghost use Rattle.collections.specs.Picking.{IsAskedFor, IsNextKey, IsPassedTo, documents_among, keys_of};
 ghost use Rattle.collections.specs.Reading.{ReadsOf};
 
 use crate::collections::Collections;
 use crate::folding::{DocumentFold, Lending};
 use bson::NoMemory;
 use btree::{Bounds, Fold};
-use entries::{document_key, first_key};
+use entries::document_key;
 use key_order::compare_keys;
 use page::Disk;
 use path::Refusal;
 use std::alloc::{AllocError, Global};
 use std::cmp::Ordering;
 
-/// A fold of documents to which the entries of some ascending keys are lent, of which so many are passed: all, once the fold is done.
+/// A fold of documents to which those of some ascending key texts of `_id`s are lent, of which so many are passed: all, once the fold is
+/// done. It has the key of the document of the next text.
 #[derive(Drop)]
 struct Picking<'a, F> {
-    keys: &'a [Vec<u8>],
+    number: u32,
+    texts: &'a [Vec<u8>],
     passed: usize,
+    key: Vec<u8>,
     lending: Lending<F>,
 }
 
-/// How many of some ascending keys are passed behind an entry of this key, where so many were before it, and whether it has one of them.
-fn place_of(keys: &[Vec<u8>], passed: usize, key: &[u8]) -> (usize, bool)
-    ensures rest { drop result.0 (texts_of keys.now)
-        ≡ after key.now (drop passed (texts_of keys.now)) }
-    ensures met { result.1 ≡ meets (drop passed (texts_of keys.now)) key.now }
+/// Makes the key of a document of the collection that of the text at a place, where there is one.
+fn set_text(
+    key: &mut Vec<u8>,
+    number: u32,
+    texts: &[Vec<u8>],
+    place: usize,
+) -> Result<(), NoMemory>
+    ensures { take 8 key.old.items ≡ key_under number 0 []
+        → OnOk result (IsNextKey number key.new.items (drop place (keys_of number texts.now))) }
 {
-    let mut at = passed;
-    'keys: while at < keys.len() {
-        match compare_keys(&keys[at], key) {
-            Ordering::Less => at += 1,
-            Ordering::Equal => return (at + 1, true),
-            Ordering::Greater => return (at, false),
+    let Some(text) = texts.get(place) else {
+        return Ok(());
+    };
+    key.truncate(8);
+    key.extend_from_slice(text)
+}
+
+/// Passes the next text.
+fn pass(
+    next: &mut Vec<u8>,
+    passed: &mut usize,
+    number: u32,
+    texts: &[Vec<u8>],
+) -> Result<(), NoMemory>
+    requires { passed.old < length texts.now }
+    ensures one { passed.new ≡ passed.old + 1 }
+    ensures next { take 8 next.old.items ≡ key_under number 0 [] → OnOk result
+        (IsNextKey number next.new.items (drop passed.new (keys_of number texts.now))) }
+{
+    *passed += 1;
+    set_text(next, number, texts, *passed)
+}
+
+/// Passes the texts up to that of an entry's key, and says whether this is the last of them.
+fn pass_to(
+    next: &mut Vec<u8>,
+    passed: &mut usize,
+    number: u32,
+    texts: &[Vec<u8>],
+    key: &[u8],
+) -> Result<bool, NoMemory>
+    ensures { IsNextKey number next.old.items (drop passed.old (keys_of number texts.now))
+        → IfOk result (IsPassedTo number key.now (drop passed.old (keys_of number texts.now))
+        (drop passed.new (keys_of number texts.now)) next.new.items) }
+{
+    'texts: while *passed < texts.len() {
+        match compare_keys(next, key) {
+            Ordering::Less => pass(next, passed, number, texts)?,
+            Ordering::Equal => {
+                pass(next, passed, number, texts)?;
+                return Ok(true);
+            }
+            Ordering::Greater => return Ok(false),
         }
     }
-    (at, false)
+    Ok(false)
 }
 
 impl<F: DocumentFold> Fold for Picking<'_, F> {
@@ -49,48 +93,49 @@ impl<F: DocumentFold> Fold for Picking<'_, F> {
     ghost makes = { Picks F.makes };
 
     fn is_done(&self) -> bool {
-        self.keys.len() <= self.passed
+        self.texts.len() <= self.passed
     }
 
     fn next_key(&self) -> Option<&[u8]> {
-        match self.keys.get(self.passed) {
-            Some(key) => Some(key),
-            None => None,
+        if self.texts.len() <= self.passed {
+            return None;
         }
+        Some(&self.key)
     }
 
     fn take_key(&mut self, key: &[u8]) -> Result<bool, AllocError> {
-        let (passed, is_met) = place_of(self.keys, self.passed, key);
-        if is_met {
-            return Ok(false);
+        if self.texts.len() <= self.passed {
+            return Ok(true);
         }
-        self.passed = passed;
-        Ok(true)
+        match compare_keys(&self.key, key) {
+            Ordering::Greater => Ok(true),
+            _ => Ok(false),
+        }
     }
 
     fn take(&mut self, key: &[u8], value: &[u8]) -> Result<(), AllocError> {
-        let (passed, is_met) = place_of(self.keys, self.passed, key);
-        self.passed = passed;
-        if is_met {
-            self.lending.take(key, value)?;
-            if self.lending.is_done() {
-                self.passed = self.keys.len();
-            }
+        let next = &mut self.key;
+        let is_met = pass_to(next, &mut self.passed, self.number, self.texts, key)?;
+        if !is_met {
+            return Ok(());
+        }
+        self.lending.take(key, value)?;
+        if self.lending.is_done() {
+            self.passed = self.texts.len();
         }
         Ok(())
     }
 }
 
-/// The keys of the documents of a collection whose `_id`s have these key texts.
-fn document_keys(alloc: Global, number: u32, texts: &[Vec<u8>]) -> Result<Vec<Vec<u8>>, NoMemory>
-    ensures { IfOk result (λ keys.
-        texts_of keys.items ≡ map (λ text. key_under number 0 text.items) texts.now) }
+/// All keys.
+fn all_keys() -> Bounds<'static>
+    ensures from { result.from.now ≡ [] }
+    ensures to { option_map (λ b. b.now) result.to ≡ None }
 {
-    let mut keys = Vec::with_capacity(alloc, texts.len())?;
-    'texts: for text in texts {
-        keys.push(document_key(alloc, number, text)?)?;
+    Bounds {
+        from: &[],
+        to: None,
     }
-    Ok(keys)
 }
 
 impl<D: Disk> Collections<D> {
@@ -110,22 +155,19 @@ impl<D: Disk> Collections<D> {
         ensures taken { IfOk result (HasTaken F.makes fold) }
     {
         self.pager.trees_fit();
-        let keys = document_keys(self.alloc, number, texts)?;
-        let from = document_key(self.alloc, number, &[])?;
-        let to = first_key(self.alloc, number, 1)?;
-        let bounds = Bounds {
-            from: &from,
-            to: Some(&to),
-        };
+        let mut key = document_key(self.alloc, number, &[])?;
+        set_text(&mut key, number, texts, 0)?;
         let mut picking = Picking {
-            keys: &keys,
+            number,
+            texts,
             passed: 0,
+            key,
             lending: Lending {
                 fold,
                 refused: None,
             },
         };
-        self.lend_from(self.root, bounds, &mut picking)?;
+        self.lend_from(self.root, all_keys(), &mut picking)?;
         match picking.lending.refused {
             None => Ok(picking.lending.fold),
             Some(refusal) => Err(refusal),
