@@ -34,7 +34,7 @@ use Rattle.entries.proofs.HomeLemmas.{number_fits}
 use Rattle.collections.specs.Below.{IsNothing, ReadsBelow}
 use Rattle.collections.specs.Folding.{Lends}
 use Rattle.collections.specs.Picking.{IsAskedFor, IsKeyed, IsNextKey, IsPassedTo, Picks, Stays, after, after_by, documents_among, keys_of, left, meets, meets_by, picked, wanted}
-use Rattle.collections.specs.Reading.{IsInTree}
+use Rattle.collections.specs.Reads.{IsInTree}
 use Rattle.collections.specs.State.{State}
 use Rattle.collections.specs.declared.folding.Lending.{Lending}
 use Rattle.collections.specs.declared.picking.Picking.{Picking}

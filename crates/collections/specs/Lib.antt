@@ -14,7 +14,7 @@ pub mod Opening
 pub mod OtherKeys
 pub mod Picking
 pub mod ReadTexts
-pub mod Reading
+pub mod Reads
 pub mod Remembering
 pub mod Standing
 pub mod State
