@@ -1,3 +1,4 @@
+pub mod AmongLemmas
 pub mod AnyLemmas
 pub mod ApplyLemmas
 pub mod BehindLemmas

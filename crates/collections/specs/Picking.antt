@@ -1,5 +1,6 @@
 -- Documents of some `_id`s that are lent, where what lies between them is passed over.
-use Rattle.std.specs.Prelude.{◌≡◌, ◌⊎◌, ℕ, ⊤, Bool, true, false, List, [], ◌∷◌, ◌++◌, drop, map, take}
+use Rattle.std.specs.Prelude.{◌≡◌, ◌⊎◌, ℕ, ⊤, Bool, true, false, List, [], ◌∷◌, ◌++◌, drop}
+use Rattle.std.specs.Prelude.{map, take}
 use Rattle.std.specs.Global.{Vec}
 use Rattle.std.specs.List.{AllPairs, filter}
 use Rattle.std.specs.declared.cmp.Ordering.{Ordering}
@@ -66,7 +67,7 @@ abbrev pub IsKeyed : List ℕ → List (List ℕ) → Type 0
 IsKeyed key [] = ⊤
 IsKeyed key (k ∷ ks) = key ≡ k
 
--- It is the key of a document of the collection, and that of the first of these, where there is one.
+-- It is the key of a document of the collection, and that of the first of these, if there is one.
 pub record IsNextKey (number : ℕ) (key : List ℕ) (keys : List (List ℕ)) : Type 0 where
   pub front : take 8 key ≡ key_under number 0 []
   pub keyed : IsKeyed key keys

@@ -30,12 +30,7 @@ struct Picking<'a, F> {
 }
 
 /// Makes the key of a document of the collection that of the text at a place, where there is one.
-fn set_text(
-    key: &mut Vec<u8>,
-    number: u32,
-    texts: &[Vec<u8>],
-    place: usize,
-) -> Result<(), NoMemory>
+fn set_text(key: &mut Vec<u8>, number: u32, texts: &[Vec<u8>], place: usize) -> Result<(), NoMemory>
     ensures { take 8 key.old.items ≡ key_under number 0 []
         → OnOk result (IsNextKey number key.new.items (drop place (keys_of number texts.now))) }
 {

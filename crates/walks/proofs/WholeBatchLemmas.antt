@@ -38,7 +38,8 @@ module _ (w : Walk) (from : w.from.now ≡ []) (start : Giving) (home : Catalogu
 
   -- of the collection that is asked
   pub lent_asked : {D : Type 0} (history : D → History) (old new : State D) (r : Result Giving Refusal) → is_stopped old ≡ false
-      → ReadsOf history (AreIdsOf home.number (matches w.filter.now) texts) (λ now c done. IsWalked (matches w.filter.now) Gives start c.documents done) r old new
+      → ReadsOf history (AreIdsOf home.number (matches w.filter.now) texts) (λ now c done. IsWalked (matches w.filter.now) Gives start c.documents done) r old
+      new
       → ReadsOf history (AreIdsOfAsked home (matches w.filter.now) texts) (λ now c done. AreLent w start c.documents done) r old new
   lent_asked history old new r running reads =
       reads_as history (AreIdsOfAsked home (matches w.filter.now) texts) (AreIdsOf home.number (matches w.filter.now) texts)

@@ -10,9 +10,7 @@ mod listed;
 mod scanning;
 mod within;
 
-pub use batches::{
-    BatchAsked, GivenBatch, Walk, batch_of_turn, batch_of_version, batch_by_ids,
-};
+pub use batches::{BatchAsked, GivenBatch, Walk, batch_by_ids, batch_of_turn, batch_of_version};
 pub use by_ids::{fold_by_ids, look_up, selected_by_ids, spelled_within};
 pub use id_range::fold_asked;
 pub use in_order::{MOST_READ, OrderedWalk, batch_in_order};

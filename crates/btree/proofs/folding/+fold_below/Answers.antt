@@ -86,7 +86,8 @@ returns-then-not-is_within-clause-folds g t c =
     (λ a. sym (ap (λ (x : Pivot). x.child) (c.branch_child-child.ensures a))) in
     subst (λ es. g.F.Fold.makes start es c.children.fold)
     (child_past (g.P.Pages.store c.read.new.self) c.args.level d subtrees c.wanted_child-at.result _ _ c.args.bounds.from.now _
-    (option_map (λ b. b.now) c.args.bounds.to) here all c.if-not-is_within.ensures) (passed_over (λ k. k.now) g.F.Fold.makes start c.children.fold c.args.bounds.from.now (option_map (λ b. b.now) c.args.bounds.to) all
+    (option_map (λ b. b.now) c.args.bounds.to) here all c.if-not-is_within.ensures)
+    (passed_over (λ k. k.now) g.F.Fold.makes start c.children.fold c.args.bounds.from.now (option_map (λ b. b.now) c.args.bounds.to) all
     (λ n. entries_of (suc d) (take n subtrees)) c.children.i c.wanted_child-at.result (λ key. IsChildPlace c.in-Branch.branch key c.wanted_child-at.result)
     (λ key place. children_passed key c.args.bounds.from.now (option_map (λ b. b.now) c.args.bounds.to) all (g.P.Pages.store c.read.new.self) c.args.page
     c.args.level d c.args.low.now (option_map (λ b. b.now) c.args.high) subtrees c.in-Branch.branch e p c.children.i
@@ -140,7 +141,8 @@ children-preserved g t c =
           (option_map (λ b. b.now) c.args.bounds.to) here all)
           (c.in_ok-fold_below.ensures.folds start _ d here.body (part_kept _ _ (c.children.invariant.grows.frame v) _ _ d _ _ here.body here.part)
           (passed_over (λ k. k.now) g.F.Fold.makes start c.children.fold c.args.bounds.from.now (option_map (λ b. b.now) c.args.bounds.to) all
-          (λ n. entries_of (suc d) (take n subtrees)) c.children.i c.wanted_child-at.result (λ key. IsChildPlace c.in-Branch.branch key c.wanted_child-at.result)
+          (λ n. entries_of (suc d) (take n subtrees)) c.children.i c.wanted_child-at.result
+          (λ key. IsChildPlace c.in-Branch.branch key c.wanted_child-at.result)
           (λ key place. children_passed key c.args.bounds.from.now (option_map (λ b. b.now) c.args.bounds.to) all (g.P.Pages.store c.read.new.self) c.args.page
           c.args.level d c.args.low.now (option_map (λ b. b.now) c.args.high) subtrees c.in-Branch.branch e p c.children.i
           c.wanted_child-at.result c.wanted_child-at.ensures.behind place)

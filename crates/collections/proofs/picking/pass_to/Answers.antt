@@ -12,8 +12,10 @@ texts-preserved c = λ so.
     let less = ap (λ k. key_cmp k key) (sym c.deref.ensures.value) ∙ sym c.compare_keys.ensures ∙ c.in-Less.is in
     record {
       first = c.in_ok-pass-in-Less.ensures.next l.first.front;
-      rest = ap (λ n. after key (drop n keys)) c.in_ok-pass-in-Less.ensures.one ∙ less_after c.args.number c.texts.passed c.args.texts.now c.texts.next.items key c.texts-test.true l.first less ∙ l.rest;
-      met = ap (λ n. meets (drop n keys) key) c.in_ok-pass-in-Less.ensures.one ∙ less_met c.args.number c.texts.passed c.args.texts.now c.texts.next.items key c.texts-test.true l.first less ∙ l.met;
+      rest = ap (λ n. after key (drop n keys)) c.in_ok-pass-in-Less.ensures.one ∙ less_after c.args.number c.texts.passed c.args.texts.now c.texts.next.items
+          key c.texts-test.true l.first less ∙ l.rest;
+      met = ap (λ n. meets (drop n keys) key) c.in_ok-pass-in-Less.ensures.one ∙ less_met c.args.number c.texts.passed c.args.texts.now c.texts.next.items key
+          c.texts-test.true l.first less ∙ l.met;
     }
 
 pub returns-in-Equal : goal.returns-in-Equal
@@ -24,7 +26,8 @@ returns-in-Equal c = λ so.
     let equal = ap (λ k. key_cmp k key) (sym c.deref.ensures.value) ∙ sym c.compare_keys.ensures ∙ c.in-Equal.is in
     record {
       first = c.in_ok-pass-in-Equal.ensures.next l.first.front;
-      rest = ap (λ n. drop n keys) c.in_ok-pass-in-Equal.ensures.one ∙ equal_after c.args.number c.texts.passed c.args.texts.now c.texts.next.items key c.texts-test.true l.first equal ∙ l.rest;
+      rest = ap (λ n. drop n keys) c.in_ok-pass-in-Equal.ensures.one ∙ equal_after c.args.number c.texts.passed c.args.texts.now c.texts.next.items key
+          c.texts-test.true l.first equal ∙ l.rest;
       met = equal_met c.args.number c.texts.passed c.args.texts.now c.texts.next.items key c.texts-test.true l.first equal ∙ l.met;
     }
 

@@ -22,7 +22,8 @@ returns-in_err-fold_by_ids g c =
     rw (e.1, e.2)
     (asked_refused g.D.Disk.history (AreIdsOf c.args.number (matches c.args.filter.now) (texts_of c.args.ids.now))
     (λ now of (count : ℕ). count ≡ length (matching c.args.filter.now of.documents)) c.args.file.now c.fold_by_ids.new.file
-    (λ now of done. IsWalked (matches c.args.filter.now) Counts start of.documents done) c.in_err-fold_by_ids.field-0.0 (c.in_err-fold_by_ids.ensures.reads (matches c.args.filter.now)))
+    (λ now of done. IsWalked (matches c.args.filter.now) Counts start of.documents done) c.in_err-fold_by_ids.field-0.0
+    (c.in_err-fold_by_ids.ensures.reads (matches c.args.filter.now)))
 
 pub returns : goal.returns
 returns g c =
@@ -30,6 +31,7 @@ returns g c =
     let done = c.in_ok-fold_by_ids.field-0 in
     asked_on g.D.Disk.history (AreIdsOf c.args.number (matches c.args.filter.now) (texts_of c.args.ids.now))
     (λ now of (count : ℕ). count ≡ length (matching c.args.filter.now of.documents)) c.args.file.now c.fold_by_ids.new.file
-    (λ now of done. IsWalked (matches c.args.filter.now) Counts start of.documents done) done (Ok done.count) (c.in_ok-fold_by_ids.ensures.reads (matches c.args.filter.now))
+    (λ now of done. IsWalked (matches c.args.filter.now) Counts start of.documents done) done (Ok done.count)
+    (c.in_ok-fold_by_ids.ensures.reads (matches c.args.filter.now))
     (λ now of asked walked.
     all_counted start done (filter walked.chosen of.documents) refl walked.folded.few walked.folded.made ∙ ap length walked.same)

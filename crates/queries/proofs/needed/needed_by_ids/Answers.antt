@@ -27,7 +27,8 @@ returns-in_err-walked-clause-reads g c =
     { alloc = c.args.alloc; pipeline = c.args.pipeline; needed = c.new.result; room = 1024; is_enough = c.are_enough.result } in
     let e = err_from_is_err_and c.from_residual.result c.from_residual.ensures.1 in
     rw (e.1, e.2)
-    (asked_refused g.D.Disk.history (AreIdsOf c.args.number (takes stages) (texts_of c.args.ids.now)) (λ now of (few : Vec Pairs Global). AreEnough stages few.items of.documents)
+    (asked_refused g.D.Disk.history (AreIdsOf c.args.number (takes stages) (texts_of c.args.ids.now))
+    (λ now of (few : Vec Pairs Global). AreEnough stages few.items of.documents)
     c.args.file.now c.fold_by_ids.new.file (λ now of done. IsWalked (takes stages) Needs start of.documents done)
     c.in_err-walked.field-0.0 (c.in_err-walked.ensures.reads (takes stages)))
 
@@ -37,7 +38,8 @@ returns-then-walked-clause-reads g c =
     let start : Needing = record
     { alloc = c.args.alloc; pipeline = c.args.pipeline; needed = c.new.result; room = 1024; is_enough = c.are_enough.result } in
     let walked : Needing = c.in_ok-walked.walked in
-    asked_on g.D.Disk.history (AreIdsOf c.args.number (takes stages) (texts_of c.args.ids.now)) (λ now of (few : Vec Pairs Global). AreEnough stages few.items of.documents)
+    asked_on g.D.Disk.history (AreIdsOf c.args.number (takes stages) (texts_of c.args.ids.now))
+    (λ now of (few : Vec Pairs Global). AreEnough stages few.items of.documents)
     c.args.file.now c.fold_by_ids.new.file (λ now of done. IsWalked (takes stages) Needs start of.documents done)
     walked (Ok walked.needed) (c.in_ok-walked.ensures.reads (takes stages))
     (λ now of asked all.
@@ -60,7 +62,8 @@ returns-in_err-only_needed-clause-reads g c =
     { alloc = c.args.alloc; pipeline = c.args.pipeline; needed = c.new.result; room = 1024; is_enough = c.are_enough.result } in
     let e = err_from_is_err_and c.from_residual-in_err-only_needed.result c.from_residual-in_err-only_needed.ensures.1 in
     rw e.1
-    (asked_on g.D.Disk.history (AreIdsOf c.args.number (takes stages) (texts_of c.args.ids.now)) (λ now of (few : Vec Pairs Global). AreEnough stages few.items of.documents)
+    (asked_on g.D.Disk.history (AreIdsOf c.args.number (takes stages) (texts_of c.args.ids.now))
+    (λ now of (few : Vec Pairs Global). AreEnough stages few.items of.documents)
     c.args.file.now c.fold_by_ids.new.file (λ now of done. IsWalked (takes stages) Needs start of.documents done) c.in_ok-walked.walked (Err e.0)
     (c.in_ok-walked.ensures.reads (takes stages)) (λ now of asked walked. e.2))
 
@@ -71,8 +74,10 @@ returns-clause-reads g c =
     { alloc = c.args.alloc; pipeline = c.args.pipeline; needed = c.new.result; room = 1024; is_enough = c.are_enough.result } in
     let walked : Needing = c.in_ok-walked.walked in
     let last = c.in_ok-only_needed.field-0 in
-    asked_on g.D.Disk.history (AreIdsOf c.args.number (takes stages) (texts_of c.args.ids.now)) (λ now of (few : Vec Pairs Global). AreEnough stages few.items of.documents)
-    c.args.file.now c.fold_by_ids.new.file (λ now of done. IsWalked (takes stages) Needs start of.documents done) walked (Ok last) (c.in_ok-walked.ensures.reads (takes stages))
+    asked_on g.D.Disk.history (AreIdsOf c.args.number (takes stages) (texts_of c.args.ids.now))
+    (λ now of (few : Vec Pairs Global). AreEnough stages few.items of.documents)
+    c.args.file.now c.fold_by_ids.new.file (λ now of done. IsWalked (takes stages) Needs start of.documents done) walked (Ok last)
+    (c.in_ok-walked.ensures.reads (takes stages))
     (λ now of asked all.
     enough_within stages last.items all.chosen of.documents all.same
     (all_needed start walked (filter all.chosen of.documents) all.folded.made c.new.ensures.items last.items c.if-walked.false

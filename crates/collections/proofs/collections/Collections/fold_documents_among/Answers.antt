@@ -13,7 +13,7 @@ use Rattle.collections.specs.State.{State}
 use Rattle.collections.specs.declared.picking.Picking.{Picking}
 use Rattle.collections.proofs.BelowLemmas.{below_refused}
 use Rattle.collections.proofs.FoldingLemmas.{folds_turn}
-use Rattle.collections.proofs.PickingLemmas.{among_shorter, picked_documents}
+use Rattle.collections.proofs.AmongLemmas.{among_shorter, picked_documents}
 use Rattle.collections.proofs.collections.Collections.fold_documents_among.Goals as goal
 
 pub returns-in_err-lend_from-clause-reads : goal.returns-in_err-lend_from-clause-reads
@@ -67,7 +67,8 @@ returns-in-None-clause-reads g c =
     let keys : wanted start ≡ map (key_under number 0) texts = sym (map_map (λ (v : Vec ℕ). v.items) (key_under number 0) c.args.texts.now) in
     folds_turn history makes c.args.fold (IsAskedFor number texts) (λ of. documents_among texts of.documents) number (λ cs of so. so.numbered)
     (λ of. among_shorter texts of.documents) old new (Ok now.lending.fold) root
-    (picked_documents history makes start now c.all_keys.result texts number root old new c.all_keys.ensures.from c.all_keys.ensures.to keys c.in_ok-lend_from.ensures.reads
+    (picked_documents history makes start now c.all_keys.result texts number root old new c.all_keys.ensures.from c.all_keys.ensures.to keys
+    c.in_ok-lend_from.ensures.reads
     (Ok now.lending.fold) (c.in-None.is, refl))
     is_root fits
 
@@ -93,6 +94,7 @@ returns-in-Some-clause-reads g c =
     let keys : wanted start ≡ map (key_under number 0) texts = sym (map_map (λ (v : Vec ℕ). v.items) (key_under number 0) c.args.texts.now) in
     folds_turn history makes c.args.fold (IsAskedFor number texts) (λ of. documents_among texts of.documents) number (λ cs of so. so.numbered)
     (λ of. among_shorter texts of.documents) old new (Err c.in-Some.refusal) root
-    (picked_documents history makes start now c.all_keys.result texts number root old new c.all_keys.ensures.from c.all_keys.ensures.to keys c.in_ok-lend_from.ensures.reads
+    (picked_documents history makes start now c.all_keys.result texts number root old new c.all_keys.ensures.from c.all_keys.ensures.to keys
+    c.in_ok-lend_from.ensures.reads
     (Err c.in-Some.refusal) c.in-Some.is)
     is_root fits
