@@ -35,7 +35,7 @@ use Rattle.collections.specs.Below.{IsNothing, ReadsBelow}
 use Rattle.collections.specs.Folding.{Lends}
 use Rattle.collections.specs.Picking.{IsAskedFor, Picks, after, after_by, documents_among, meets}
 use Rattle.collections.specs.Picking.{meets_by, picked, wanted}
-use Rattle.collections.specs.Reads.{IsInTree}
+use Rattle.collections.specs.Lookups.{IsInTree}
 use Rattle.collections.specs.State.{State}
 use Rattle.collections.specs.declared.picking.Picking.{Picking}
 use Rattle.collections.proofs.BelowLemmas.{below_on}

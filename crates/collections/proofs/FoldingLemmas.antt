@@ -33,7 +33,7 @@ use Rattle.path.specs.declared.refusal.Refusal.{Refusal}
 use Rattle.path.specs.declared.refusal.Refusal.TheVariants as refusals
 use Rattle.collections.specs.Below.{IsNothing, ReadsBelow}
 use Rattle.collections.specs.Folding.{IsFolded, IsOfStored, IsRefusedAmong, Lends, document_in, documents_within, end_under, lies_within}
-use Rattle.collections.specs.Reads.{IsInTree, IsNumbered, LooksUp, OrMemory, ReadsOf}
+use Rattle.collections.specs.Lookups.{IsInTree, IsNumbered, LooksUp, OrMemory, ReadsOf}
 use Rattle.collections.specs.State.{State}
 use Rattle.collections.specs.Versions.{ReadsVersion}
 use Rattle.collections.specs.declared.folding.Lending.{Lending}

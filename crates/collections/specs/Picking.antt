@@ -13,7 +13,7 @@ use Rattle.index.specs.Changes.{is_among}
 use Rattle.entry_model.specs.State.{Collection, key_of}
 use Rattle.entry_model.specs.StateEntries.{key_under}
 use Rattle.collections.specs.Folding.{Lends}
-use Rattle.collections.specs.Reads.{IsNumbered}
+use Rattle.collections.specs.Lookups.{IsNumbered}
 use Rattle.collections.specs.declared.folding.Lending.{Lending}
 use Rattle.collections.specs.declared.picking.Picking.{Picking}
 

@@ -9,7 +9,7 @@ ghost use Rattle.btree.specs.Fold.{HasTaken as HasTakenEntries, between};
 ghost use Rattle.entry_model.specs.LawfulState.{IsStorable};
 ghost use Rattle.collections.specs.Below.{IsNothing, ReadsBelow};
 ghost use Rattle.collections.specs.Folding.{HasTaken, IsFolded, Lends, documents_within, end_under};
-ghost use Rattle.collections.specs.Reads.{IsInTree, IsNumbered, LooksUp, ReadsOf};
+ghost use Rattle.collections.specs.Lookups.{IsInTree, IsNumbered, LooksUp, ReadsOf};
 
 use crate::applying::refusal_of;
 use crate::collections::Collections;

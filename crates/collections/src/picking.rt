@@ -5,7 +5,7 @@ ghost use Rattle.entry_model.specs.StateEntries.{key_under};
 ghost use Rattle.index.specs.View.{texts_of};
 ghost use Rattle.collections.specs.Folding.{HasTaken, IsFolded};
 ghost use Rattle.collections.specs.Picking.{IsAskedFor, IsNextKey, IsPassedTo, documents_among, keys_of};
-ghost use Rattle.collections.specs.Reads.{ReadsOf};
+ghost use Rattle.collections.specs.Lookups.{ReadsOf};
 
 use crate::collections::Collections;
 use crate::folding::{DocumentFold, Lending};

@@ -2,7 +2,7 @@
 //! leaves, and none is kept.
 
 ghost use Rattle.std.specs.Prelude.{◌≡◌, ◌<◌, ◌≤◌, ◌^◌, [], IfOk, IfSome, length};
-ghost use Rattle.collections.specs.Reads.{ReadsOf};
+ghost use Rattle.collections.specs.Lookups.{ReadsOf};
 ghost use Rattle.filter.specs.Matches.{matches};
 ghost use Rattle.index.specs.View.{texts_of};
 ghost use Rattle.asked_documents.specs.Asking.{IsAsked};

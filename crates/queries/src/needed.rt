@@ -4,7 +4,7 @@ ghost use Rattle.std.specs.Prelude.{◌≡◌, true, All, IfOk, List, [], ◌∷
 ghost use Rattle.bson.specs.Tree.{Pairs};
 ghost use Rattle.aggregate_model.specs.Taking.{takes, IsEnough, SufficesTaken};
 ghost use Rattle.pipelines.specs.View.{pipeline_of};
-ghost use Rattle.collections.specs.Reads.{ReadsOf};
+ghost use Rattle.collections.specs.Lookups.{ReadsOf};
 ghost use Rattle.command_model.specs.Insert.{documents_at};
 ghost use Rattle.database_model.specs.Aggregate.{AreEnough};
 ghost use Rattle.database_model.specs.Lawful.{IsWithin};

@@ -14,7 +14,7 @@ use Rattle.index.specs.Changes.{is_among}
 use Rattle.collections.specs.Calls.{HasReadCause}
 use Rattle.collections.specs.Folding.{IsFolded}
 use Rattle.collections.specs.Picking.{IsAskedFor, documents_among}
-use Rattle.collections.specs.Reads.{ReadsOf}
+use Rattle.collections.specs.Lookups.{ReadsOf}
 use Rattle.collections.specs.State.{State}
 use Rattle.asked_documents.specs.ById.{AreIdsOf}
 use Rattle.walks.specs.IdRange.{IsWalked}

@@ -17,7 +17,7 @@ use Rattle.path.specs.declared.refusal.Refusal.{Refusal}
 use Rattle.path.specs.declared.refusal.Refusal.TheVariants as refusals
 use Rattle.collections.specs.Calls.{HasReadCause}
 use Rattle.collections.specs.Folding.{IsFolded, documents_within}
-use Rattle.collections.specs.Reads.{IsNumbered, OrMemory, ReadsOf}
+use Rattle.collections.specs.Lookups.{IsNumbered, OrMemory, ReadsOf}
 use Rattle.collections.specs.State.{State}
 use Rattle.collections.specs.Versions.{ReadsVersion}
 use Rattle.collections.specs.View.{is_stopped}

@@ -20,7 +20,7 @@ use Rattle.entry_model.specs.State.{key_of}
 use Rattle.entries.specs.declared.catalogue_reading.Catalogued.{Catalogued}
 use Rattle.entry_model.proofs.FoundLawLemmas.{found_collection}
 use Rattle.collections.specs.Folding.{IsFolded, documents_within, lies_within}
-use Rattle.collections.specs.Reads.{IsNumbered, ReadsOf}
+use Rattle.collections.specs.Lookups.{IsNumbered, ReadsOf}
 use Rattle.collections.specs.State.{State}
 use Rattle.collections.specs.View.{is_stopped}
 use Rattle.database_model.specs.Lawful.{IsStored}

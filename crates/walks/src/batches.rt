@@ -2,7 +2,7 @@
 //! ends where its batch is full.
 
 ghost use Rattle.std.specs.Prelude.{◌≡◌, ◌<◌, ◌≤◌, ◌^◌, IfErr, IfOk, [], IfSome, false, length, option_map};
-ghost use Rattle.collections.specs.Reads.{ReadsOf};
+ghost use Rattle.collections.specs.Lookups.{ReadsOf};
 ghost use Rattle.collections.specs.Versions.{ReadsVersion};
 ghost use Rattle.filter.specs.Matches.{matches};
 ghost use Rattle.index.specs.View.{texts_of};

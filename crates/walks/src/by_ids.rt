@@ -5,7 +5,7 @@ ghost use Rattle.std.specs.List.{filter};
 ghost use Rattle.asked_documents.specs.ById.{AreIdsOf};
 ghost use Rattle.bson.specs.Tree.{Pairs};
 ghost use Rattle.collections.specs.Folding.{HasTaken};
-ghost use Rattle.collections.specs.Reads.{IsPlaceOf, ReadsOf, stored_at};
+ghost use Rattle.collections.specs.Lookups.{IsPlaceOf, ReadsOf, stored_at};
 ghost use Rattle.database_model.specs.Lawful.{IsWithin};
 ghost use Rattle.index.specs.View.{texts_of};
 ghost use Rattle.planner.specs.IdLaws.{with_found};

@@ -3,7 +3,7 @@ use Rattle.std.specs.Prelude.{IfSome, is_some}
 use Rattle.std.proofs.lemmas.Result.{err_from_is_err_and}
 use Rattle.bson.specs.Tree.{Pairs}
 use Rattle.collections.specs.Folding.{HasTaken}
-use Rattle.collections.specs.Reads.{ReadsOf}
+use Rattle.collections.specs.Lookups.{ReadsOf}
 use Rattle.filter.specs.Matches.{matches}
 use Rattle.index.specs.View.{texts_of}
 use Rattle.walks.specs.Batches.{Gives, IsWholeBatch}

@@ -8,7 +8,7 @@ use Rattle.pager.specs.Capacity.{TreesFit}
 use Rattle.tree_model.proofs.ListLemmas.{map_map}
 use Rattle.collections.specs.Below.{IsNothing}
 use Rattle.collections.specs.Picking.{IsAskedFor, Picks, documents_among, wanted}
-use Rattle.collections.specs.Reads.{IsInTree}
+use Rattle.collections.specs.Lookups.{IsInTree}
 use Rattle.collections.specs.State.{State}
 use Rattle.collections.specs.declared.picking.Picking.{Picking}
 use Rattle.collections.proofs.BelowLemmas.{below_refused}

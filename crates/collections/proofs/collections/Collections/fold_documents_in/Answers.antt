@@ -1,5 +1,5 @@
 use Rattle.collections.specs.Folding.{documents_within}
-use Rattle.collections.specs.Reads.{IsNumbered}
+use Rattle.collections.specs.Lookups.{IsNumbered}
 use Rattle.collections.proofs.FoldingLemmas.{folds_version}
 use Rattle.collections.proofs.WithinLemmas.{within_shorter}
 use Rattle.collections.proofs.collections.Collections.fold_documents_in.Goals as goal

@@ -1,7 +1,7 @@
 use Rattle.std.proofs.Common.{ap, subst}
 use Rattle.pager.specs.Capacity.{TreesFit}
 use Rattle.collections.specs.Folding.{documents_within}
-use Rattle.collections.specs.Reads.{IsNumbered}
+use Rattle.collections.specs.Lookups.{IsNumbered}
 use Rattle.collections.specs.State.{State}
 use Rattle.collections.proofs.FoldingLemmas.{folds_turn}
 use Rattle.collections.proofs.WithinLemmas.{within_shorter}

@@ -6,7 +6,7 @@ use Rattle.btree.specs.declared.folding.Bounds.{Bounds}
 use Rattle.entry_model.specs.StateEntries.{key_under}
 use Rattle.collections.specs.Below.{IsNothing}
 use Rattle.collections.specs.Folding.{Lends, documents_within, end_under}
-use Rattle.collections.specs.Reads.{IsInTree, IsNumbered}
+use Rattle.collections.specs.Lookups.{IsInTree, IsNumbered}
 use Rattle.collections.specs.declared.folding.Lending.{Lending}
 use Rattle.collections.proofs.BelowLemmas.{below_refused}
 use Rattle.collections.proofs.FoldingLemmas.{folded}
