@@ -7,7 +7,7 @@ use Rattle.page.specs.History.{History}
 use Rattle.path.specs.declared.refusal.Refusal.{Refusal}
 use Rattle.path.specs.declared.refusal.Refusal.TheVariants as refusals
 use Rattle.entry_model.specs.State.{Collection}
-use Rattle.collections.specs.Reading.{ReadsOf}
+use Rattle.collections.specs.Lookups.{ReadsOf}
 use Rattle.collections.specs.State.{State}
 use Rattle.collections.specs.View.{is_stopped}
 use Rattle.asked_documents.proofs.ReadingLemmas.{goes_itself}

@@ -13,7 +13,7 @@ use Rattle.index.specs.Changes.{is_among}
 use Rattle.entry_model.specs.State.{Collection, key_of}
 use Rattle.planner.specs.IdLaws.{AreIdTexts}
 use Rattle.database_model.specs.Lawful.{IsStored}
-use Rattle.collections.specs.Reading.{IsNumbered}
+use Rattle.collections.specs.Lookups.{IsNumbered}
 use Rattle.entries.specs.declared.catalogue_reading.Catalogued.{Catalogued}
 use Rattle.asked_documents.specs.Asking.{IsAsked}
 

@@ -1,3 +1,4 @@
+mod PassedLemmas
 mod ScanLemmas
 pub mod AroundFew
 pub mod AroundLemmas

@@ -178,19 +178,23 @@ module _ (to : Option (List ℕ)) (items : List Item) (pairs : List Pair) (at : 
 
 module _ (from : List ℕ) (to : Option (List ℕ)) (items : List Item) (pairs : List Pair) (start : ℕ) (e : items ≡ map item_of pairs)
     (rise : Rises (pair_keys pairs)) (place : IsPlace items from start) where
-  pub first_none : window from to (map entry_of (take start pairs)) ≡ []
-  first_none =
+  pub first_under : Each (λ (x : Entry). IsUnder x.key from) (map entry_of (take start pairs))
+  first_under =
       let c = cut_at pairs start (omega (arith, place.within, ap length e, long_map item_of pairs)) in
       let place' : IsPlace (map item_of (c.front ++ c.back)) from (length c.front) =
       subst (λ n. IsPlace (map item_of (c.front ++ c.back)) from n) (sym c.place) (subst (λ zs. IsPlace zs from start) (e ∙ ap (map item_of) c.is) place) in
       let under : Each (λ (x : Pair). IsUnder x.key from) c.front = front_is_under from c.front c.back (subst (λ ps. Rises (pair_keys ps)) c.is rise) place' in
-      ap (λ ps. window from to (map entry_of (take start ps))) c.is ∙ ap (λ n. window from to (map entry_of (take n (c.front ++ c.back)))) (sym c.place)
-      ∙ ap (λ ps. window from to (map entry_of ps)) (take_here c.front c.back)
-      ∙ window_under from to (map entry_of c.front) (each_entry (λ k. IsUnder k from) c.front under)
+      subst (Each (λ (x : Entry). IsUnder x.key from))
+      (sym (ap (λ ps. map entry_of (take start ps)) c.is ∙ ap (λ n. map entry_of (take n (c.front ++ c.back))) (sym c.place)
+      ∙ ap (map entry_of) (take_here c.front c.back)))
+      (each_entry (λ k. IsUnder k from) c.front under)
     where
       take_here : (xs ys : List Pair) → take (length xs) (xs ++ ys) ≡ xs
       take_here [] ys = refl
       take_here (x ∷ xs) ys = ap (λ zs. x ∷ zs) (take_here xs ys)
+
+  pub first_none : window from to (map entry_of (take start pairs)) ≡ []
+  first_none = window_under from to (map entry_of (take start pairs)) first_under
 
   pub here : (i : ℕ) → start ≤ i → i < length items → (it : Item) → ((d : Item) → it ≡ get_or items i d) → IsHere items pairs from i it
   here i le lt it at =
@@ -316,9 +320,9 @@ module _ (s : Store) (page level d : ℕ) (low : List ℕ) (high : Option (List 
             (from_child d low high front c.mid c.back part'.sound)));
       }
 
-  pub none_before : (from : List ℕ) (to : Option (List ℕ)) (start : ℕ) → IsChildPlace pivots from start
-      → window from to (entries_of (suc d) (take start subtrees)) ≡ []
-  none_before from to start place =
+  pub before_under : (from : List ℕ) (start : ℕ) → IsChildPlace pivots from start
+      → Each (λ (x : Entry). IsUnder x.key from) (entries_of (suc d) (take start subtrees))
+  before_under from start place =
       let long : length pivots ≡ length subtrees = ap length e ∙ long_map pivot_of subtrees in
       let c = split_at subtrees start (omega (arith, place.within)) in
       let front : List (Subtree (Body d)) = take start subtrees in
@@ -329,15 +333,18 @@ module _ (s : Store) (page level d : ℕ) (low : List ℕ) (high : Option (List 
     where
       go : (w : Subtree (Body d)) (back : List (Subtree (Body d))) (front : List (Subtree (Body d))) → IsSound (suc d) low high (front ++ w ∷ back)
           → IsChildPlace (map pivot_of (front ++ w ∷ back)) from (length front)
-          → window from to (entries_of (suc d) front) ≡ []
-      go w back [] h p = refl
+          → Each (λ (x : Entry). IsUnder x.key from) (entries_of (suc d) front)
+      go w back [] h p = tt
       go w back (f ∷ fs) h p =
           let a = around_child d low high (f ∷ fs) w back h in
           let low_is : IsNotUnder from w.key =
           subst (λ (x : Pivot). IsNotUnder from x.key) (place_here (f ∷ fs) w back (pivot_of w)) (p.below (pivot_of w) (omega arith)) in
-          window_under from to (entries_of (suc d) (f ∷ fs))
-          (each_entry (λ k. IsUnder k from) (pairs_of (suc d) (f ∷ fs))
-          (each_map _ _ (λ x u. under_then_up_to x.key w.key from u low_is) (pairs_of (suc d) (f ∷ fs)) a.before))
+          each_entry (λ k. IsUnder k from) (pairs_of (suc d) (f ∷ fs))
+          (each_map _ _ (λ x u. under_then_up_to x.key w.key from u low_is) (pairs_of (suc d) (f ∷ fs)) a.before)
+
+  pub none_before : (from : List ℕ) (to : Option (List ℕ)) (start : ℕ) → IsChildPlace pivots from start
+      → window from to (entries_of (suc d) (take start subtrees)) ≡ []
+  none_before from to start place = window_under from to (entries_of (suc d) (take start subtrees)) (before_under from start place)
 
 module _ (s : Store) (level d : ℕ) (subtrees : List (Subtree (Body d))) (i child : ℕ) (from to_key : List ℕ) (high to : Option (List ℕ))
     (h : IsChild s level d subtrees i child from high) (all : List Entry) where

@@ -1,8 +1,9 @@
 // Entries of a range in ascending order of their keys, lent one after the other while their leaf is borrowed.
-ghost use Rattle.std.specs.Prelude.{◌≡◌, ◌++◌, ◌∷◌, [], Ok, ℕ, zero, length, List, map, false, true, OnOk, IfErr};
+ghost use Rattle.std.specs.Prelude.{◌≡◌, ◌⊎◌, ◌<◌, ◌≤◌, ◌++◌, ◌∷◌, [], Ok, ℕ, zero, length, List, map, false, true, OnOk, IfErr, MatchOption};
 ghost use Rattle.std.specs.Option.{option_map};
 ghost use Rattle.tree_model.specs.Keys.{Pair, Rises, entry_of, Entry};
 ghost use Rattle.tree_model.specs.Reading.{IsNotFull};
+ghost use Rattle.tree_model.specs.Search.{IsChildPlace, IsPlace};
 ghost use Rattle.tree_model.specs.Store.{Grows, IsSame, KeepsWord, Store};
 ghost use Rattle.tree_model.specs.Tree.{Body, HasChain, HasLinks, IsTree, Shows, entries_of, item_of, next_of, pair_keys};
 ghost use Rattle.tree_model.specs.View.{item_in};
@@ -10,11 +11,13 @@ ghost use Rattle.tree_model.specs.Calls.{IsPart, Yields};
 ghost use Rattle.btree.specs.Fold.{HasTaken, between, entry_at};
 
 use crate::chain::chain_bytes;
-use page::{Cell, Leaf, PageContent, Stored};
+use key_order::compare_keys;
+use page::{Branch, Cell, Leaf, PageContent, Stored};
 use std::alloc::{AllocError, Global};
+use std::cmp::Ordering;
 use tree_model::{
-    Pages, TreeFault, branch_child, child_of_key, high_bound, is_within, leaf_cell, lies_between,
-    low_bound, place_of_end, place_of_key,
+    Pages, TreeFault, branch_child, branch_key, child_of_key, high_bound, is_within, leaf_cell,
+    leaf_key, lies_between, low_bound, place_of_end, place_of_key,
 };
 
 /// Keys from one up to below another, or to the end.
@@ -26,8 +29,8 @@ pub struct Bounds<'a> {
 
 /// What is made of entries that are lent one after the other, in ascending order of their keys.
 pub trait Fold {
-    ghost use Rattle.std.specs.Prelude.{List};
-    ghost use Rattle.tree_model.specs.Keys.{Entry};
+    ghost use Rattle.std.specs.Prelude.{List, IfSome};
+    ghost use Rattle.tree_model.specs.Keys.{Each, Entry, IsUnder};
 
     /// What some entries make of it: how it was before them, and how it is behind them.
     ghost makes: { Self → List Entry → Self → Type 0 };
@@ -36,6 +39,15 @@ pub trait Fold {
     fn is_done(&self) -> bool
         ensures { result ≡ true → (start : Self) (all more : List Entry)
             → makes start all self.now → makes start (all ++ more) self.now };
+
+    /// The key below which it stays as it is, whatever else may come: what lies below is passed over. `None`: any entry may change it.
+    fn next_key(&self) -> Option<&[u8]>
+        ensures { IfSome result (λ key. (start : Self) (all more : List Entry)
+            → Each (λ x. IsUnder x.key key.now) more
+            → makes start all self.now → makes start (all ++ more) self.now) }
+    {
+        None
+    }
 
     /// Takes the next entry by its key alone, and is true, where its value isn't needed. A value in a chain of pages is
     /// read only where this is false.
@@ -108,6 +120,70 @@ fn lend<P: Pages, F: Fold>(
     }
 }
 
+// The first cell whose key isn't below this one. Most leaves of a range begin within it, so the first cell is looked at first.
+fn first_cell(leaf: &Leaf, from: &[u8]) -> usize
+    ensures { IsPlace leaf.now from.now result }
+{
+    if leaf.len() == 0 || compare_keys(leaf_key(leaf, 0), from) != Ordering::Less {
+        return 0;
+    }
+    place_of_key(leaf, from)
+}
+
+// The first child in which a key may lie that isn't below this one. Most branches of a range begin within it too.
+fn first_child(branch: &Branch, from: &[u8]) -> usize
+    requires { 0 < length branch.now }
+    ensures { IsChildPlace branch.now from.now result }
+{
+    if branch.len() == 1 || compare_keys(from, branch_key(branch, 1)) == Ordering::Less {
+        return 0;
+    }
+    child_of_key(branch, from)
+}
+
+// The first cell whose key isn't below this one, where the cell at a place is: none, if the last cell is too.
+fn cell_behind(leaf: &Leaf, i: usize, key: &[u8]) -> usize
+    requires { i < length leaf.now }
+    ensures behind { i ≤ result }
+    ensures passed { (result ≡ i) ⊎ IsPlace leaf.now key.now result }
+{
+    let len = leaf.len();
+    match compare_keys(leaf_key(leaf, len - 1), key) {
+        Ordering::Less => len,
+        _ => place_of_key(leaf, key).max(i),
+    }
+}
+
+// The first cell from a place on that a fold wants which passes over what lies below a key.
+fn wanted_cell(leaf: &Leaf, i: usize, key: Option<&[u8]>) -> usize
+    requires { i < length leaf.now }
+    ensures behind { i ≤ result }
+    ensures passed { MatchOption key.entry (result ≡ i)
+        (λ k. (result ≡ i) ⊎ IsPlace leaf.now k.now result) }
+{
+    let Some(key) = key else {
+        return i;
+    };
+    match compare_keys(leaf_key(leaf, i), key) {
+        Ordering::Less => cell_behind(leaf, i, key),
+        _ => i,
+    }
+}
+
+// The first child from a place on that such a fold wants.
+fn wanted_child(branch: &Branch, i: usize, key: Option<&[u8]>) -> usize
+    requires { i < length branch.now }
+    ensures behind { i ≤ result }
+    ensures within { result < length branch.now }
+    ensures passed { MatchOption key.entry (result ≡ i)
+        (λ k. (result ≡ i) ⊎ IsChildPlace branch.now k.now result) }
+{
+    match key {
+        Some(key) => child_of_key(branch, key).max(i),
+        None => i,
+    }
+}
+
 // Lends the entries of a leaf.
 fn fold_leaf<P: Pages, F: Fold>(
     alloc: Global,
@@ -131,11 +207,17 @@ fn fold_leaf<P: Pages, F: Fold>(
         (λ done. F.makes start (all ++ between bounds.entry (map entry_of pairs)) fold.new) result }
 {
     let end = place_of_end(leaf, bounds.to);
-    for i in place_of_key(leaf, bounds.from)..end {
+    let mut i = first_cell(leaf, bounds.from);
+    'cells: while i < end {
         if fold.is_done() {
             return Ok(());
         }
-        lend(alloc, pages, fold, leaf_cell(leaf, i))?;
+        let at = wanted_cell(leaf, i, fold.next_key());
+        if end <= at {
+            return Ok(());
+        }
+        lend(alloc, pages, fold, leaf_cell(leaf, at))?;
+        i = at + 1;
     }
     Ok(())
 }
@@ -180,17 +262,20 @@ fn fold_below<P: Pages, F: Fold>(
     if branch.len() == 0 {
         return Err(TreeFault::Length);
     }
-    for i in child_of_key(branch, bounds.from)..branch.len() {
-        let from = low_bound(branch, i, low);
-        let to = high_bound(branch, i, high);
-        let child = branch_child(branch, i).page;
+    let mut i = first_child(branch, bounds.from);
+    'children: while i < branch.len() {
         if fold.is_done() {
             return Ok(());
         }
+        let at = wanted_child(branch, i, fold.next_key());
+        let from = low_bound(branch, at, low);
+        let to = high_bound(branch, at, high);
+        let child = branch_child(branch, at).page;
         if !is_within(from, bounds.to) {
             return Ok(());
         }
         fold_below(alloc, pages, child, level + 1, from, to, bounds, fold)?;
+        i = at + 1;
     }
     Ok(())
 }

@@ -6,7 +6,7 @@ use Rattle.std.specs.Global.{Vec}
 use Rattle.bson.specs.Tree.{Tree, Pairs}
 use Rattle.page.specs.History.{History}
 use Rattle.path.specs.declared.refusal.Refusal.{Refusal}
-use Rattle.collections.specs.Reading.{ReadsOf}
+use Rattle.collections.specs.Lookups.{ReadsOf}
 use Rattle.collections.specs.State.{State}
 use Rattle.collections.specs.View.{is_stopped}
 use Rattle.filter.specs.Condition.{Conditions, equal, is}

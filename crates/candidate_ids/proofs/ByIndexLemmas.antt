@@ -26,7 +26,7 @@ use Rattle.entry_model.proofs.MemberLemmas.{Among, among_image, among_of, contai
 use Rattle.entry_model.proofs.DocumentPlaces.{document_some}
 use Rattle.index.proofs.SetLemmas.{set_among, set_sorted}
 use Rattle.collections.specs.IndexTexts.{AreTextsBetween, Indexed, IsNumberedIndex}
-use Rattle.collections.specs.Reading.{IsNumbered}
+use Rattle.collections.specs.Lookups.{IsNumbered}
 use Rattle.planner.specs.FoundIds.{LeadToMatching, ids_in, ids_of}
 use Rattle.planner.specs.IdLaws.{AreIdTexts}
 use Rattle.planner.specs.KeyRange.{IsSpellable}

@@ -3,7 +3,7 @@
 
 ghost use Rattle.std.specs.Prelude.{◌≡◌, [], IfSome, Some, option_map};
 ghost use Rattle.bson.specs.Tree.{document};
-ghost use Rattle.collections.specs.Reading.{ReadsOf};
+ghost use Rattle.collections.specs.Lookups.{ReadsOf};
 ghost use Rattle.filter.specs.Matches.{all_hold, along, holds, matches, whole};
 ghost use Rattle.filter.specs.View.{condition_of, conditions_of};
 ghost use Rattle.index.specs.View.{texts_of};

@@ -2,7 +2,7 @@
 
 ghost use Rattle.std.specs.Prelude.{◌≡◌, ◌∷◌, [], List, Some, IfSome, true, false, ℕ};
 ghost use Rattle.bson.specs.View.{tree};
-ghost use Rattle.collections.specs.Reading.{ReadsOf};
+ghost use Rattle.collections.specs.Lookups.{ReadsOf};
 ghost use Rattle.filter.specs.Matches.{matches};
 ghost use Rattle.index.specs.View.{texts_of};
 ghost use Rattle.plan_model.specs.Plan.{range_in};

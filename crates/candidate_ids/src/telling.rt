@@ -1,7 +1,7 @@
 //! The `_id`s that tell which documents are looked for: those that their filters ask for, and those to which indexes lead.
 
 ghost use Rattle.std.specs.Prelude.{◌≡◌, [], true, IfSome, map};
-ghost use Rattle.collections.specs.Reading.{ReadsOf};
+ghost use Rattle.collections.specs.Lookups.{ReadsOf};
 ghost use Rattle.filter.specs.Matches.{matches};
 ghost use Rattle.index.specs.View.{texts_of};
 ghost use Rattle.asked_documents.specs.ById.{AreIdsOf, TellOf, but_not, one_matches};

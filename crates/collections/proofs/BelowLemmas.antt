@@ -15,7 +15,7 @@ use Rattle.pager.specs.declared.version.Version.{Version}
 use Rattle.entry_model.specs.State.{Collection}
 use Rattle.collections.specs.Below.{HasBelow, IsNothing, ReadsBelow}
 use Rattle.collections.specs.Calls.{HasReadCause, Reads}
-use Rattle.collections.specs.Reading.{IsInTree, LooksUp, OrMemory, ReadsOf}
+use Rattle.collections.specs.Lookups.{IsInTree, LooksUp, OrMemory, ReadsOf}
 use Rattle.collections.specs.Standing.{HasState, IsTurnOf}
 use Rattle.collections.specs.State.{State}
 use Rattle.collections.specs.Versions.{HasVersion, ReadsVersion}

@@ -29,7 +29,7 @@ use Rattle.pager.specs.State.{State as PagerState}
 use Rattle.pager.specs.View.{store_of}
 use Rattle.collections.specs.Calls.{HasCause}
 use Rattle.collections.specs.Entries.{AreNextEntries, HasEntries, ReadsTree, entries_from}
-use Rattle.collections.specs.Reading.{LooksUp}
+use Rattle.collections.specs.Lookups.{LooksUp}
 use Rattle.collections.specs.State.{State}
 use Rattle.collections.specs.View.{is_stopped, pages_of}
 use Rattle.collections.proofs.ReadingLemmas.{AnswersAs, cause_there, room_there, stays_there, changed_there}

@@ -1,5 +1,5 @@
 -- What entries make of a fold to which they are lent, as they are or as documents.
-use Rattle.std.proofs.Common.{◌≡◌, ℕ, suc, ◌<◌, ◌^◌, List, [], ◌∷◌, ◌++◌, length, map, refl, sym, ◌∙◌, ap, subst, arith, inl, inr}
+use Rattle.std.proofs.Common.{◌≡◌, ℕ, suc, ◌<◌, ◌≤◌, ◌^◌, List, [], ◌∷◌, ◌++◌, length, map, refl, sym, ◌∙◌, ap, subst, arith, inl, inr}
 use Rattle.std.specs.Prelude.{true, false, Option, Some, None, is_some, All, Result, Ok, Err, IfErr, OnOk, MatchOption}
 use Rattle.std.specs.Option.{option_map}
 use Rattle.std.specs.Result.{result_err}
@@ -33,7 +33,7 @@ use Rattle.path.specs.declared.refusal.Refusal.{Refusal}
 use Rattle.path.specs.declared.refusal.Refusal.TheVariants as refusals
 use Rattle.collections.specs.Below.{IsNothing, ReadsBelow}
 use Rattle.collections.specs.Folding.{IsFolded, IsOfStored, IsRefusedAmong, Lends, document_in, documents_within, end_under, lies_within}
-use Rattle.collections.specs.Reading.{IsInTree, IsNumbered, LooksUp, OrMemory, ReadsOf}
+use Rattle.collections.specs.Lookups.{IsInTree, IsNumbered, LooksUp, OrMemory, ReadsOf}
 use Rattle.collections.specs.State.{State}
 use Rattle.collections.specs.Versions.{ReadsVersion}
 use Rattle.collections.specs.declared.folding.Lending.{Lending}
@@ -131,6 +131,24 @@ abbrev pub AnswersWith : {F : Type 0} → Lending F → Result F Refusal → Typ
 AnswersWith now (Ok done) = (now.refused ≡ None) × (done ≡ now.fold)
 AnswersWith now (Err e) = now.refused ≡ Some e
 
+module _ {F : Type 0} (makes : F → List Pairs → F → Type 0) (start now : Lending F) where
+  -- what the entries of documents that may be stored make of it
+  pub lent_documents : (number : ℕ) (ds : List Pairs) → All IsStorable ds → Lends makes start (map (document_entry number) ds) now
+      → MatchOption now.refused (makes start.fold ds now.fold) (λ e. e ≡ refusals.OutOfMemory)
+  lent_documents number ds storable h = by_refused now.refused h
+    where
+      by_refused : (o : Option Refusal)
+          → MatchOption o (makes start.fold (map document_in (map (document_entry number) ds)) now.fold) (IsRefusedAmong (map (document_entry number) ds))
+          → MatchOption o (makes start.fold ds now.fold) (λ e. e ≡ refusals.OutOfMemory)
+      by_refused None made = subst (λ es. makes start.fold es now.fold) (spelled_again number ds storable) made
+      by_refused (Some e) why = why (all_stored number ds storable)
+
+  pub answered : (ds : List Pairs) (r : Result F Refusal) → AnswersWith now r
+      → MatchOption now.refused (makes start.fold ds now.fold) (λ e. e ≡ refusals.OutOfMemory) → OrMemory (λ done. makes start.fold ds done) r
+  answered ds (Ok done) is told =
+      subst (makes start.fold ds) (sym is.1) (subst (λ o. MatchOption o (makes start.fold ds now.fold) (λ e. e ≡ refusals.OutOfMemory)) is.0 told)
+  answered ds (Err e) is told = subst (λ o. MatchOption o (makes start.fold ds now.fold) (λ e. e ≡ refusals.OutOfMemory)) is told
+
 module _ {D F : Type 0} (history : D → History) (makes : F → List Pairs → F → Type 0) (start now : Lending F) (bounds texts : Bounds) (number root : ℕ)
     (old new : State D) (from : bounds.from.now ≡ key_under number 0 texts.from.now)
     (to : option_map (λ b. b.now) bounds.to ≡ Some (end_under number (option_map (λ b. b.now) texts.to)))
@@ -160,14 +178,7 @@ module _ {D F : Type 0} (history : D → History) (makes : F → List Pairs → 
     storable = All-filter (λ d. lies_within texts (tree_text (key_of d))) IsStorable c.documents kept.storable
 
     lent : MatchOption now.refused (makes start.fold (documents_within texts c.documents) now.fold) (λ e. e ≡ refusals.OutOfMemory)
-    lent = by_refused now.refused (subst (λ es. Lends makes start es now) listed p.right)
-      where
-        by_refused : (o : Option Refusal)
-            → MatchOption o (makes start.fold (map document_in (map (document_entry c.number) asked)) now.fold)
-            (IsRefusedAmong (map (document_entry c.number) asked))
-            → MatchOption o (makes start.fold asked now.fold) (λ e. e ≡ refusals.OutOfMemory)
-        by_refused None made = subst (λ ds. makes start.fold ds now.fold) (spelled_again c.number asked storable) made
-        by_refused (Some e) why = why (all_stored c.number asked storable)
+    lent = lent_documents makes start now c.number asked storable (subst (λ es. Lends makes start es now) listed p.right)
 
   pub folded : (r : Result F Refusal) → AnswersWith now r
       → ReadsBelow history root (λ cs c. IsNumbered cs c number) (λ cs c done. makes start.fold (documents_within texts c.documents) done) r old new
@@ -175,51 +186,36 @@ module _ {D F : Type 0} (history : D → History) (makes : F → List Pairs → 
       below_on history root IsNothing (λ cs c. IsNumbered cs c number)
       (λ cs asked. IsInTree (λ entries (u : Unit {0}). Lends makes start (between bounds entries) now) cs)
       (λ cs c done. makes start.fold (documents_within texts c.documents) done) old new tt r reads
-      (λ cs c numbered. (tt, tt, λ p. by_answer c r is (lent cs c numbered p)))
-    where
-      by_answer : (c : Collection) (r : Result F Refusal) → AnswersWith now r
-          → MatchOption now.refused (makes start.fold (documents_within texts c.documents) now.fold) (λ e. e ≡ refusals.OutOfMemory)
-          → OrMemory (λ done. makes start.fold (documents_within texts c.documents) done) r
-      by_answer c (Ok done) is told =
-          subst (makes start.fold (documents_within texts c.documents)) (sym is.1)
-          (subst (λ o. MatchOption o (makes start.fold (documents_within texts c.documents) now.fold) (λ e. e ≡ refusals.OutOfMemory)) is.0 told)
-      by_answer c (Err e) is told =
-          subst (λ o. MatchOption o (makes start.fold (documents_within texts c.documents) now.fold) (λ e. e ≡ refusals.OutOfMemory)) is told
+      (λ cs c numbered. (tt, tt, λ p. answered makes start now (documents_within texts c.documents) r is (lent cs c numbered p)))
 
 -- ---- they are few
 
-module _ {D F : Type 0} (history : D → History) (makes : F → List Pairs → F → Type 0) (start : F) (texts : Bounds) (number : ℕ) (old new : State D)
-    (r : Result F Refusal) where
-  abbrev Asked : List Collection → Collection → Type 0
-  Asked cs c = IsNumbered cs c number
-
+module _ {D F : Type 0} (history : D → History) (makes : F → List Pairs → F → Type 0) (start : F) (Asked : List Collection → Collection → Type 0)
+    (asked : Collection → List Pairs) (number : ℕ) (numbered : (cs : List Collection) (c : Collection) → Asked cs c → IsNumbered cs c number)
+    (shorter : (c : Collection) → length (asked c) ≤ length c.documents) (old new : State D) (r : Result F Refusal) where
   abbrev Folded : List Collection → Collection → F → Type 0
-  Folded cs c done = makes start (documents_within texts c.documents) done
+  Folded cs c done = makes start (asked c) done
 
   pub folds_turn : (root : ℕ) → ReadsBelow history root Asked Folded r old new → root ≡ old.root → TreesFit history old.pager
-      → ReadsOf history Asked (λ cs c done. IsFolded makes start (documents_within texts c.documents) done) r old new
+      → ReadsOf history Asked (λ cs c done. IsFolded makes start (asked c) done) r old new
   folds_turn root reads is fits =
-      asks_turn history Asked Folded old new r root reads (λ cs c done. IsFolded makes start (documents_within texts c.documents) done) is
-      (λ running k first cs has c numbered done made. record {
+      asks_turn history Asked Folded old new r root reads (λ cs c done. IsFolded makes start (asked c) done) is
+      (λ running k first cs has c so done made. record {
         made = made;
-        few = omega (
-          arith,
-          within_shorter texts c.documents,
-          few_documents history old number fits running k first cs c has numbered,
-        );
+        few = omega (arith, shorter c, few_documents history old number fits running k first cs c has (numbered cs c so));
       })
 
   pub folds_version : (version : Version) → ReadsBelow history version.root Asked Folded r old new
-      → ReadsVersion history version Asked (λ cs c done. IsFolded makes start (documents_within texts c.documents) done) r old new
+      → ReadsVersion history version Asked (λ cs c done. IsFolded makes start (asked c) done) r old new
   folds_version version reads =
-      asks_version history Asked Folded old new r version.root reads (λ cs c done. IsFolded makes start (documents_within texts c.documents) done)
+      asks_version history Asked Folded old new r version.root reads (λ cs c done. IsFolded makes start (asked c) done)
       version refl
-      (λ cs h c numbered done made. record {
+      (λ cs h c so done made. record {
         made = made;
         few = omega (
           arith,
-          within_shorter texts c.documents,
-          no_more_documents h.entries cs c number (record { lawful = h.state; spells = h.spells }) numbered,
+          shorter c,
+          no_more_documents h.entries cs c number (record { lawful = h.state; spells = h.spells }) (numbered cs c so),
           h.few,
         );
       })

@@ -25,8 +25,8 @@ use Rattle.entries.specs.declared.catalogue_reading.Catalogued.{Catalogued}
 use Rattle.entry_model.proofs.FoundLawLemmas.{found_collection, found_document}
 use Rattle.entries.proofs.ListingLaws.{lists_collections}
 use Rattle.entries.proofs.ReadLaws.{finds_collection, finds_document}
-use Rattle.collections.specs.Reading.{AreBytesAt, AreEach, IsBatchOf, IsInTree, IsOfCollection, IsOfDocument, IsPlaceOf, IsValueAt, OrMemory, Place}
-use Rattle.collections.specs.Reading.{catalogued_in, catalogued_of, stored_at}
+use Rattle.collections.specs.Lookups.{AreBytesAt, AreEach, IsBatchOf, IsInTree, IsOfCollection, IsOfDocument, IsPlaceOf, IsValueAt, OrMemory, Place}
+use Rattle.collections.specs.Lookups.{catalogued_in, catalogued_of, stored_at}
 
 -- ---- a collection by its name
 

@@ -36,7 +36,7 @@ use Rattle.entries.proofs.WindowLemmas.{among_window, inside_there, is_inside, w
 use Rattle.collections.specs.IndexTexts.{AreFirstTexts, AreNextTexts, AreTextsBelow, AreTextsBetween, Indexed, IsEntryText, IsNumberedIndex, IsTextFrom}
 use Rattle.collections.specs.IndexTexts.{LiesBetween, next_behind, text_behind, texts_behind}
 use Rattle.collections.specs.ReadTexts.{AreTextsRead}
-use Rattle.collections.specs.Reading.{IsInTree}
+use Rattle.collections.specs.Lookups.{IsInTree}
 use Rattle.collections.specs.declared.index_texts.TextReading.{TextReading}
 use Rattle.collections.proofs.BehindLemmas.{either_text, text_there, texts_told, texts_there, same_front, texts_rise, lower, front_or_above}
 use Rattle.collections.proofs.BehindLemmas.{front_between, all_told, few_told, within_end, IsAfter, IsFront, front_of, rises_front, each_back, rises_back}

@@ -1,3 +1,4 @@
+pub mod AmongLemmas
 pub mod AnyLemmas
 pub mod ApplyLemmas
 pub mod BehindLemmas
@@ -13,6 +14,7 @@ pub mod LawLemmas
 pub mod MarkLemmas
 pub mod OpenLemmas
 pub mod OtherKeyLemmas
+pub mod PickingLemmas
 pub mod ReadingLemmas
 pub mod RememberingLemmas
 pub mod StandingLemmas

@@ -19,7 +19,7 @@ use Rattle.entry_model.specs.StateEntries.{key_under}
 use Rattle.entries.proofs.EditLookLemmas.{put_what_they_have}
 use Rattle.entries.proofs.OtherEditLaws.{after_edits, in_range}
 use Rattle.collections.specs.OtherKeys.{TellsDocument, TellsOtherKey}
-use Rattle.collections.specs.Reading.{IsBatchOf, IsInTree, IsValueAt}
+use Rattle.collections.specs.Lookups.{IsBatchOf, IsInTree, IsValueAt}
 use Rattle.collections.proofs.FoundLemmas.{whole_batch}
 use Rattle.collections.proofs.ReadingLemmas.{next_same}
 

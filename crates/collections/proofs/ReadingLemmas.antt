@@ -24,7 +24,7 @@ use Rattle.entry_model.specs.State.{Collection}
 use Rattle.collections.specs.Applying.{refusal_of}
 use Rattle.collections.specs.Calls.{HasCause, HasReadCause, IsUnchanged, Reads}
 use Rattle.collections.specs.Entries.{IsNotForRoom, ReadsEntries}
-use Rattle.collections.specs.Reading.{LooksUp, OrMemory, ReadsOf}
+use Rattle.collections.specs.Lookups.{LooksUp, OrMemory, ReadsOf}
 use Rattle.collections.specs.Standing.{HasState}
 use Rattle.collections.specs.State.{State}
 use Rattle.collections.specs.View.{is_changed, is_stopped}

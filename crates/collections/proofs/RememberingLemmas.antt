@@ -24,7 +24,7 @@ use Rattle.entry_model.specs.StateEntries.{key_under}
 use Rattle.entries.specs.declared.catalogue_reading.Catalogued.{Catalogued}
 use Rattle.collections.specs.Below.{HasBelow, IsNothing, ReadsBelow}
 use Rattle.collections.specs.Calls.{Reads}
-use Rattle.collections.specs.Reading.{IsInTree, IsValueAt, catalogued_in, catalogued_of}
+use Rattle.collections.specs.Lookups.{IsInTree, IsValueAt, catalogued_in, catalogued_of}
 use Rattle.collections.specs.Remembering.{IsOf, IsRemembered, Memory, Tells, TellsAgain}
 use Rattle.collections.specs.State.{State}
 use Rattle.collections.specs.View.{disk_history, is_stopped, pages_of}

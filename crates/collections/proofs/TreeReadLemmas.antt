@@ -22,7 +22,7 @@ use Rattle.entries.proofs.OtherEditLaws.{in_range}
 use Rattle.collections.specs.Calls.{ExtendsTurn, HasCause}
 use Rattle.collections.specs.Entries.{HasEntries, IsNotForRoom, ReadsTree}
 use Rattle.collections.specs.IndexChecks.{has_entry, lacks_any, lacks_key, lacks_one}
-use Rattle.collections.specs.Reading.{IsBatchOf}
+use Rattle.collections.specs.Lookups.{IsBatchOf}
 use Rattle.collections.specs.Standing.{HasState}
 use Rattle.collections.specs.State.{State}
 use Rattle.collections.specs.View.{disk_history, is_changed, pages_of}

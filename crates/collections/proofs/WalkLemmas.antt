@@ -29,7 +29,7 @@ use Rattle.entry_model.proofs.FoundLawLemmas.{found_collection}
 use Rattle.pager.specs.Capacity.{TreesFit}
 use Rattle.path.specs.declared.refusal.Refusal.{Refusal}
 use Rattle.collections.specs.Calls.{Reads}
-use Rattle.collections.specs.Reading.{AreEach, IsBatchOf, IsInTree, IsNumbered, IsOfDocument, OrMemory, ReadsOf}
+use Rattle.collections.specs.Lookups.{AreEach, IsBatchOf, IsInTree, IsNumbered, IsOfDocument, OrMemory, ReadsOf}
 use Rattle.collections.specs.Standing.{HasState, IsTurnOf}
 use Rattle.collections.specs.State.{State}
 use Rattle.collections.specs.View.{disk_history, is_stopped}

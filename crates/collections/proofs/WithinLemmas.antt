@@ -47,12 +47,12 @@ abbrev end_of : Bounds → Option (List ℕ)
 end_of texts = option_map (λ b. b.now) texts.to
 
 module _ (number : ℕ) (small : number < 2 ^ 32) where
-  same_place : (x y : List ℕ) → key_cmp (key_under number 0 x) (key_under number 0 y) ≡ key_cmp x y
+  pub same_place : (x y : List ℕ) → key_cmp (key_under number 0 x) (key_under number 0 y) ≡ key_cmp x y
   same_place x y =
       under_cmp number number 0 0 x y small small (omega arith) (omega arith)
       ∙ (λ i. ordering_then (tied_itself nat_cmp_total number i) (ordering_then (tied_itself nat_cmp_total 0 i) (key_cmp x y)))
 
-  below_next : (x : List ℕ) → key_cmp (key_under number 0 x) (key_under number 1 []) ≡ Less
+  pub below_next : (x : List ℕ) → key_cmp (key_under number 0 x) (key_under number 1 []) ≡ Less
   below_next x =
       under_cmp number number 0 1 x [] small small (omega arith) (omega arith)
       ∙ (λ i. ordering_then (tied_itself nat_cmp_total number i) (ordering_then (nat_cmp 0 1) (key_cmp x [])))

@@ -12,7 +12,7 @@ use Rattle.tree_model.specs.Keys.{Entry, Rises, key_cmp}
 use Rattle.index.specs.Definition.{Definition}
 use Rattle.index.specs.KeyTexts.{encoded_keys}
 use Rattle.entry_model.specs.State.{Collection, key_of}
-use Rattle.collections.specs.Reading.{IsNumbered}
+use Rattle.collections.specs.Lookups.{IsNumbered}
 
 -- ---- of entries
 

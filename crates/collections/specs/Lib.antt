@@ -9,11 +9,12 @@ pub mod Holding
 pub mod IndexChecks
 pub mod IndexTexts
 pub mod Laws
+pub mod Lookups
 pub mod Marks
 pub mod Opening
 pub mod OtherKeys
+pub mod Picking
 pub mod ReadTexts
-pub mod Reading
 pub mod Remembering
 pub mod Standing
 pub mod State

@@ -5,7 +5,7 @@ use Rattle.index.specs.Definition.{Definition}
 use Rattle.entries.specs.OtherKeys.{has_other_key}
 use Rattle.entry_model.specs.State.{Collection}
 use Rattle.entry_model.specs.StateEntries.{key_under}
-use Rattle.collections.specs.Reading.{IsInTree}
+use Rattle.collections.specs.Lookups.{IsInTree}
 
 -- Right for the map that the edits make of the one which spells the collections: an entry of the
 -- index stands in it for this encoded key, and for another `_id` than the one of this text.

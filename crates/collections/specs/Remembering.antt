@@ -7,7 +7,7 @@ use Rattle.entry_model.specs.LawfulState.{IsKept}
 use Rattle.entry_model.specs.State.{Collection, find_collection}
 use Rattle.entry_model.specs.StateEntries.{catalogue_entry}
 use Rattle.collections.specs.Below.{HasBelow}
-use Rattle.collections.specs.Reading.{IsWithinLimits, catalogued_in, catalogued_of}
+use Rattle.collections.specs.Lookups.{IsWithinLimits, catalogued_in, catalogued_of}
 use Rattle.collections.specs.State.{State}
 use Rattle.collections.specs.View.{disk_history}
 

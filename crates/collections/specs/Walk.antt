@@ -9,7 +9,7 @@ use Rattle.entry_model.specs.State.{Collection}
 use Rattle.entry_model.specs.StateEntries.{document_entry, key_under}
 use Rattle.page.specs.History.{History, KeepsWord}
 use Rattle.collections.specs.declared.walk.Walk.{Walk}
-use Rattle.collections.specs.Reading.{AreEach, IsNumbered, IsOfDocument}
+use Rattle.collections.specs.Lookups.{AreEach, IsNumbered, IsOfDocument}
 use Rattle.collections.specs.Standing.{HasState}
 use Rattle.collections.specs.State.{State}
 use Rattle.collections.specs.View.{disk_history, is_stopped}

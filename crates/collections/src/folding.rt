@@ -9,7 +9,7 @@ ghost use Rattle.btree.specs.Fold.{HasTaken as HasTakenEntries, between};
 ghost use Rattle.entry_model.specs.LawfulState.{IsStorable};
 ghost use Rattle.collections.specs.Below.{IsNothing, ReadsBelow};
 ghost use Rattle.collections.specs.Folding.{HasTaken, IsFolded, Lends, documents_within, end_under};
-ghost use Rattle.collections.specs.Reading.{IsInTree, IsNumbered, LooksUp, ReadsOf};
+ghost use Rattle.collections.specs.Lookups.{IsInTree, IsNumbered, LooksUp, ReadsOf};
 
 use crate::applying::refusal_of;
 use crate::collections::Collections;
@@ -45,9 +45,9 @@ pub trait DocumentFold {
 
 /// A fold of documents to which entries are lent, and why one of them was refused.
 #[derive(Drop)]
-struct Lending<F> {
-    fold: F,
-    refused: Option<Refusal>,
+pub(crate) struct Lending<F> {
+    pub(crate) fold: F,
+    pub(crate) refused: Option<Refusal>,
 }
 
 /// The document that an entry's value is.
@@ -101,20 +101,20 @@ impl<F: DocumentFold> Fold for Lending<F> {
 }
 
 /// Lends the entries between bounds of the tree below a root page.
-fn lend_below<D: Disk, F: DocumentFold>(
+fn lend_below<D: Disk, F: Fold>(
     alloc: Global,
     pager: &mut Pager<D>,
     root: u32,
     bounds: Bounds<'_>,
-    lending: &mut Lending<F>,
+    fold: &mut F,
 ) -> Result<(), TreeFault>
-    requires { Lends F.makes lending.old [] lending.old }
+    requires { F.makes fold.old [] fold.old }
     ensures looks { LooksUp D.history root
-        (λ entries _. Lends F.makes lending.old (between bounds.entry entries) lending.new)
+        (λ entries _. F.makes fold.old (between bounds.entry entries) fold.new)
         result pager.old pager.new }
-    ensures taken { OnOk result (HasTakenEntries (Lends F.makes) lending.old lending.new) }
+    ensures taken { OnOk result (HasTakenEntries F.makes fold.old fold.new) }
 {
-    fold_entries(alloc, pager, root, bounds, lending)
+    fold_entries(alloc, pager, root, bounds, fold)
 }
 
 /// Below which key the entries of documents lie whose texts are below this one, or of all documents.
@@ -130,22 +130,22 @@ fn end_key(alloc: Global, number: u32, text: Option<&[u8]>) -> Result<Vec<u8>, N
 
 impl<D: Disk> Collections<D> {
     /// Lends the entries between bounds of the tree below a root page.
-    fn lend_from<F: DocumentFold>(
+    pub(crate) fn lend_from<F: Fold>(
         &mut self,
         root: u32,
         bounds: Bounds<'_>,
-        lending: &mut Lending<F>,
+        fold: &mut F,
     ) -> Result<(), Refusal>
-        requires { Lends F.makes lending.old [] lending.old }
+        requires { F.makes fold.old [] fold.old }
         ensures reads { ReadsBelow D.history root IsNothing (λ now asked. IsInTree
-            (λ entries _. Lends F.makes lending.old (between bounds.entry entries) lending.new) now)
+            (λ entries _. F.makes fold.old (between bounds.entry entries) fold.new) now)
             result self.old self.new }
-        ensures taken { OnOk result (HasTakenEntries (Lends F.makes) lending.old lending.new) }
+        ensures taken { OnOk result (HasTakenEntries F.makes fold.old fold.new) }
     {
         if self.pager.is_stopped() {
             return Err(Refusal::StorageFailed);
         }
-        match lend_below(self.alloc, &mut self.pager, root, bounds, lending) {
+        match lend_below(self.alloc, &mut self.pager, root, bounds, fold) {
             Ok(()) => Ok(()),
             Err(fault) => Err(refusal_of(fault)),
         }

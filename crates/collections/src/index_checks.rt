@@ -7,7 +7,7 @@ ghost use Rattle.entries.specs.OtherKeys.{has_other_key, is_another};
 ghost use Rattle.index.specs.View.{texts_of};
 ghost use Rattle.collections.specs.Entries.{ReadsTree};
 ghost use Rattle.collections.specs.IndexChecks.{has_entry, is_empty_at, lacks_any, lacks_key, lacks_one};
-ghost use Rattle.collections.specs.Reading.{IsBatchOf, IsValueAt};
+ghost use Rattle.collections.specs.Lookups.{IsBatchOf, IsValueAt};
 ghost use Rattle.std.specs.Option.{option_map};
 
 use crate::applying::refusal_of;

@@ -9,7 +9,7 @@ ghost use Rattle.entry_model.specs.StateEntries.{key_under};
 ghost use Rattle.index.specs.View.{texts_of};
 ghost use Rattle.collections.specs.Below.{IsNothing, ReadsBelow};
 ghost use Rattle.collections.specs.IndexTexts.{AreFirstTexts, AreNextTexts, AreTextsBetween, IsNumberedIndex, next_behind, text_behind};
-ghost use Rattle.collections.specs.Reading.{IsInTree, LooksUp, ReadsOf};
+ghost use Rattle.collections.specs.Lookups.{IsInTree, LooksUp, ReadsOf};
 ghost use Rattle.collections.specs.ReadTexts.{AreTextsRead};
 ghost use Rattle.collections.specs.declared.index_texts.TextReading.{TextReading};
 

@@ -11,6 +11,7 @@ pub mod laws;
 mod lookups;
 mod mark;
 mod other_keys;
+mod picking;
 mod remembered;
 mod versions;
 mod walk;

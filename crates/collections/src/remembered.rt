@@ -4,7 +4,7 @@ ghost use Rattle.std.specs.Prelude.{◌≡◌, true, IfOk, IfSome, IsSomeAnd, Ma
 ghost use Rattle.entry_model.specs.LawfulState.{IsKept};
 ghost use Rattle.entry_model.specs.State.{Collection};
 ghost use Rattle.entry_model.specs.StateEntries.{catalogue_entry};
-ghost use Rattle.collections.specs.Reading.{IsWithinLimits, OrMemory, catalogued_in, catalogued_of};
+ghost use Rattle.collections.specs.Lookups.{IsWithinLimits, OrMemory, catalogued_in, catalogued_of};
 ghost use Rattle.collections.specs.Remembering.{IsOf, IsToldBy, TellsAgain};
 
 use crate::lookups::told_in;

@@ -4,7 +4,7 @@ ghost use Rattle.std.specs.Prelude.{◌≡◌, [], IfOk};
 ghost use Rattle.std.specs.Option.{option_map};
 ghost use Rattle.collections.specs.Folding.{HasTaken, IsFolded, documents_within};
 ghost use Rattle.collections.specs.IndexTexts.{AreReadNext, IsNumberedIndex};
-ghost use Rattle.collections.specs.Reading.{IsNumbered, IsPlaceOf, stored_at};
+ghost use Rattle.collections.specs.Lookups.{IsNumbered, IsPlaceOf, stored_at};
 ghost use Rattle.collections.specs.Versions.{PinsNow, ReadsVersion, UnpinsVersion};
 ghost use Rattle.index.specs.View.{texts_of};
 

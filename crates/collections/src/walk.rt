@@ -1,7 +1,7 @@
 //! Walks through the documents of a collection, a few at a time.
 
 ghost use Rattle.std.specs.Prelude.{◌≡◌, ◌⊎◌, ◌<◌, ◌≤◌, [], IfOk};
-ghost use Rattle.collections.specs.Reading.{ReadsOf};
+ghost use Rattle.collections.specs.Lookups.{ReadsOf};
 ghost use Rattle.collections.specs.Walk.{BeginsWalk, GoesOnWalking, HasNext, IsWalk, StepsOn};
 
 use crate::collections::Collections;

@@ -2,7 +2,7 @@
 use Rattle.std.proofs.Common.{◌≡◌, ℕ, List, Option, Some, None, refl, sym, ap, subst}
 use Rattle.std.specs.Prelude.{unwrap_or}
 use Rattle.std.specs.Option.{option_map}
-use Rattle.collections.specs.Reading.{catalogued_in, catalogued_of}
+use Rattle.collections.specs.Lookups.{catalogued_in, catalogued_of}
 use Rattle.index.specs.Definition.{Definition}
 use Rattle.entry_model.specs.State.{Collection, find_collection}
 use Rattle.entries.specs.declared.catalogue_reading.Catalogued.{Catalogued}

@@ -9,7 +9,7 @@ use Rattle.page.specs.History.{History, KeepsWord}
 use Rattle.tree_model.specs.Keys.{Edit}
 use Rattle.path.specs.declared.refusal.Refusal.{Refusal}
 use Rattle.path.specs.declared.refusal.Refusal.TheVariants as refusals
-use Rattle.collections.specs.Reading.{IsWithinLimits}
+use Rattle.collections.specs.Lookups.{IsWithinLimits}
 use Rattle.collections.proofs.LawLemmas as laws
 use Rattle.command_model.specs.DropIndexes.{DroppedIndexes}
 use Rattle.index.specs.Definition.{Definition}

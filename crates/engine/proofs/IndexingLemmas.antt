@@ -7,7 +7,7 @@ use Rattle.bson.specs.Tree.{Pairs}
 use Rattle.page.specs.History.{History, KeepsWord}
 use Rattle.path.specs.declared.refusal.Refusal.{Refusal}
 use Rattle.path.specs.declared.refusal.Refusal.TheVariants as refusals
-use Rattle.collections.specs.Reading.{IsNumbered, ReadsOf}
+use Rattle.collections.specs.Lookups.{IsNumbered, ReadsOf}
 use Rattle.collections.specs.State.{State}
 use Rattle.collections.specs.Walk.{BeginsWalk, IsWalk, StepsOn}
 use Rattle.collections.specs.declared.walk.Walk.{Walk}

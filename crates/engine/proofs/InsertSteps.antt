@@ -11,7 +11,7 @@ use Rattle.path.specs.declared.refusal.Refusal.{Refusal}
 use Rattle.path.specs.declared.refusal.Refusal.TheVariants as refusals
 use Rattle.command_model.specs.Insert.{documents_at}
 use Rattle.collections.specs.Calls.{HasReadCause}
-use Rattle.collections.specs.Reading.{IsWithinLimits, catalogued_in, catalogued_of}
+use Rattle.collections.specs.Lookups.{IsWithinLimits, catalogued_in, catalogued_of}
 use Rattle.update_model.specs.Stored.{id_first}
 use Rattle.entry_model.specs.Documents.{AddsCollection}
 use Rattle.entry_model.specs.LawfulState as states

@@ -21,7 +21,7 @@ use Rattle.entry_model.specs.State.{Collection}
 use Rattle.database_model.specs.Lawful.{IsWithin, IsKept, IsLawfulState}
 use Rattle.replies.specs.View.{with_ok}
 use Rattle.database_model.specs.Cursors.{item_size, batch_len, batch_of, cursor_reply, number_after, batch_reply}
-use Rattle.collections.specs.Reading.{name_of, name_in as name_of_collection}
+use Rattle.collections.specs.Lookups.{name_of, name_in as name_of_collection}
 use Rattle.collections.specs.declared.lookups.Name.{Name}
 use Rattle.database_model.specs.ListCollections.{name_in, with_name, names_in, names_behind, listed, run_list_collections}
 use Rattle.database_model.specs.Refusals.{words, ok_reply}

@@ -7,7 +7,7 @@ use Rattle.path.specs.declared.refusal.Refusal.{Refusal}
 use Rattle.path.specs.declared.refusal.Refusal.TheVariants as refusals
 use Rattle.entry_model.specs.State.{Collection}
 use Rattle.collections.specs.Calls.{ExtendsTurn, HasFailed, HasReadCause, IsUnchanged, Reads}
-use Rattle.collections.specs.Reading.{ReadsOf}
+use Rattle.collections.specs.Lookups.{ReadsOf}
 use Rattle.collections.specs.Standing.{HasState}
 use Rattle.std.specs.Prelude.{Bool}
 use Rattle.collections.specs.View.{disk_history}

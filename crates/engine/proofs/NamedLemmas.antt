@@ -6,7 +6,7 @@ use Rattle.page.specs.History.{History}
 use Rattle.path.specs.declared.refusal.Refusal.{Refusal}
 use Rattle.entry_model.specs.State.{Collection, find_collection}
 use Rattle.entry_model.proofs.PlaceLemmas.{found_name}
-use Rattle.collections.specs.Reading.{IsNumbered}
+use Rattle.collections.specs.Lookups.{IsNumbered}
 use Rattle.engine.specs.Looking.{Looks, LooksOf}
 use Rattle.engine.specs.Durable.{IsSound}
 use Rattle.engine.specs.View.{world}

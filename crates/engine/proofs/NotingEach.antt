@@ -4,7 +4,7 @@ use Rattle.page.specs.History.{History, KeepsWord}
 use Rattle.tree_model.specs.Keys.{Edit}
 use Rattle.outcome.specs.Outcome.{◌>>=◌}
 use Rattle.path.specs.declared.refusal.Refusal.{Refusal}
-use Rattle.collections.specs.Reading.{IsWithinLimits}
+use Rattle.collections.specs.Lookups.{IsWithinLimits}
 use Rattle.entry_model.specs.State.{Collection}
 use Rattle.entries.specs.declared.catalogue_reading.Catalogued.{Catalogued}
 use Rattle.engine.specs.Durable.{disk_history}

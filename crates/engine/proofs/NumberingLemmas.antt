@@ -10,7 +10,7 @@ use Rattle.path.specs.declared.refusal.Refusal.{Refusal}
 use Rattle.path.specs.declared.refusal.Refusal.TheVariants as refusals
 use Rattle.entry_model.specs.State.{Collection, empty_collection, uses}
 use Rattle.collections.specs.Calls.{Reads}
-use Rattle.collections.specs.Reading.{name_in, name_of}
+use Rattle.collections.specs.Lookups.{name_in, name_of}
 use Rattle.collections.specs.State.{State}
 use Rattle.collections.specs.declared.lookups.Name.{Name}
 use Rattle.engine.specs.Durable.{disk_history, IsSound}

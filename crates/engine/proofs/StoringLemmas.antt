@@ -9,7 +9,7 @@ use Rattle.outcome.specs.Outcome.{◌>>=◌, unless}
 use Rattle.path.specs.declared.refusal.Refusal.{Refusal}
 use Rattle.path.specs.declared.refusal.Refusal.TheVariants as refusals
 use Rattle.tree_model.specs.Keys.{Edit}
-use Rattle.collections.specs.Reading.{catalogued_in, catalogued_of}
+use Rattle.collections.specs.Lookups.{catalogued_in, catalogued_of}
 use Rattle.update_model.specs.Stored.{id_first}
 use Rattle.index.specs.Definition.{Definition}
 use Rattle.entry_model.specs.Documents.{AddsCollection}

@@ -9,7 +9,7 @@ use Rattle.tree_model.specs.Keys.{Edit}
 use Rattle.outcome.specs.Outcome.{◌>>=◌, unless}
 use Rattle.path.specs.declared.refusal.Refusal.{Refusal}
 use Rattle.path.specs.declared.refusal.Refusal.TheVariants as refusals
-use Rattle.collections.specs.Reading.{IsWithinLimits}
+use Rattle.collections.specs.Lookups.{IsWithinLimits}
 use Rattle.entry_model.specs.Entering.{DocumentWrite, enter_each, entered}
 use Rattle.entry_model.specs.State.{Collection, put_collection}
 use Rattle.entries.specs.declared.catalogue_reading.Catalogued.{Catalogued}

@@ -10,7 +10,7 @@ ghost use Rattle.engine.specs.TakingOut.{HasHome};
 ghost use Rattle.replies.specs.View.{IsSendable};
 ghost use Rattle.engine.specs.View.{world};
 ghost use Rattle.engine.specs.Writing.{ChangesCollections};
-ghost use Rattle.collections.specs.Reading.{IsWithinLimits};
+ghost use Rattle.collections.specs.Lookups.{IsWithinLimits};
 
 use crate::engine::Engine;
 use bson::Document;

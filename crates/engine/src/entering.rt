@@ -1,7 +1,7 @@
 //! Documents that commands write enter their collection, as edits of the file.
 
 ghost use Rattle.std.specs.Prelude.{◌≡◌, ◌≤◌, [], IfOk, length, option_map};
-ghost use Rattle.collections.specs.Reading.{IsWithinLimits};
+ghost use Rattle.collections.specs.Lookups.{IsWithinLimits};
 ghost use Rattle.entries.specs.KeyedDocuments.{AreKeyed};
 ghost use Rattle.entry_model.specs.LawfulState.{IsStorable};
 ghost use Rattle.engine.specs.Durable.{IsSound};

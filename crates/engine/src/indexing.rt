@@ -1,7 +1,7 @@
 //! An index is made of the documents that its collection has, and noted as edits of the file.
 
 ghost use Rattle.std.specs.Prelude.{◌≡◌, ◌<◌, ◌≤◌, IfErr, IfOk, OnOk, length, true};
-ghost use Rattle.collections.specs.Reading.{IsWithinLimits};
+ghost use Rattle.collections.specs.Lookups.{IsWithinLimits};
 ghost use Rattle.database_model.specs.CreateIndexes.{with_new_index, with_new_indexes};
 ghost use Rattle.engine.specs.Durable.{IsRunning, IsSound};
 ghost use Rattle.engine.specs.Indexing.{HasDocumentsOf, HasIndexed, IsIndexed, IsIndexing, IsUnbegun, IsUnindexable, RefusesOne, TakesEach};

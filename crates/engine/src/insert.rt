@@ -8,7 +8,7 @@ ghost use Rattle.database_model.specs.Insert.{inserted, run_insert};
 ghost use Rattle.page.specs.History.{KeepsWord};
 ghost use Rattle.engine.specs.Durable.{disk_history, has_changes, IsSound};
 ghost use Rattle.engine.specs.Performing.{RunsCommand};
-ghost use Rattle.collections.specs.Reading.{IsWithinLimits};
+ghost use Rattle.collections.specs.Lookups.{IsWithinLimits};
 ghost use Rattle.engine.specs.Storing.{IsAny, Notes};
 ghost use Rattle.replies.specs.View.{IsSendable};
 ghost use Rattle.engine.specs.View.{world};

@@ -1,7 +1,7 @@
 //! `listCollections`: the names of a database's collections.
 
 ghost use Rattle.std.specs.Prelude.{◌≡◌, ◌++◌, ◌≤◌, All, IfOk, length, map, option_map, string_bytes};
-ghost use Rattle.collections.specs.Reading.{name_of};
+ghost use Rattle.collections.specs.Lookups.{name_of};
 ghost use Rattle.database_model.specs.ListCollections.{name_in, names_behind, names_in, listed, run_list_collections};
 ghost use Rattle.engine.specs.Durable.{has_changes, IsSound};
 ghost use Rattle.engine.specs.Looking.{Looks};

@@ -3,7 +3,7 @@
 ghost use Rattle.std.specs.Prelude.{◌≡◌, ◌<◌, ◌≤◌, ◌^◌, [], All, IfOk, IfSome, length, map, take};
 ghost use Rattle.std.specs.List.{filter};
 ghost use Rattle.std.specs.Option.{option_map};
-ghost use Rattle.collections.specs.Reading.{IsWithinLimits, catalogued_in, catalogued_of};
+ghost use Rattle.collections.specs.Lookups.{IsWithinLimits, catalogued_in, catalogued_of};
 ghost use Rattle.sort.specs.Sort.{order};
 ghost use Rattle.entry_model.specs.State.{find_collection};
 ghost use Rattle.engine.specs.Durable.{IsSound};

@@ -1,7 +1,7 @@
 //! An index of a collection is dropped with the entries of all its documents, noted as edits of the file.
 
 ghost use Rattle.std.specs.Prelude.{◌≡◌, ◌<◌, ◌≤◌, All, IfErr, IfOk, OnOk, length, true};
-ghost use Rattle.collections.specs.Reading.{IsWithinLimits};
+ghost use Rattle.collections.specs.Lookups.{IsWithinLimits};
 ghost use Rattle.commands.specs.View.{dropped_of};
 ghost use Rattle.entries.specs.IndexBuilding.{HasRemovedEntries};
 ghost use Rattle.entries.specs.Indexed.{GoesOnBy};

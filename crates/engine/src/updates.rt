@@ -2,7 +2,7 @@
 
 ghost use Rattle.std.specs.Prelude.{◌≡◌, ◌≢◌, ◌≤◌, [], false, true, IfOk, None, All, length, map};
 ghost use Rattle.page.specs.History.{KeepsWord};
-ghost use Rattle.collections.specs.Reading.{IsWithinLimits};
+ghost use Rattle.collections.specs.Lookups.{IsWithinLimits};
 ghost use Rattle.command_model.specs.Update.{UpdateStatement, IsRead};
 ghost use Rattle.command_model.specs.Command.{update};
 ghost use Rattle.engine.specs.Durable.{disk_history, has_changes, IsSound};

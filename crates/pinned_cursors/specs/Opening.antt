@@ -5,7 +5,7 @@ use Rattle.std.specs.List.{filter}
 use Rattle.bson.specs.Tree.{Pairs}
 use Rattle.page.specs.History.{History, KeepsWord}
 use Rattle.entry_model.specs.State.{Collection}
-use Rattle.collections.specs.Reading.{IsNumbered}
+use Rattle.collections.specs.Lookups.{IsNumbered}
 use Rattle.collections.specs.Standing.{HasState}
 use Rattle.collections.specs.State.{State}
 use Rattle.collections.specs.View.{disk_history, is_changed, is_stopped}

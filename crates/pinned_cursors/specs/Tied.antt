@@ -6,7 +6,7 @@ use Rattle.bson.specs.Tree.{Pairs}
 use Rattle.page.specs.History.{History, KeepsWord}
 use Rattle.tree_model.specs.Keys.{times}
 use Rattle.entry_model.specs.State.{Collection}
-use Rattle.collections.specs.Reading.{IsNumbered}
+use Rattle.collections.specs.Lookups.{IsNumbered}
 use Rattle.pager.specs.declared.version.Version.{Version}
 use Rattle.collections.specs.State.{State}
 use Rattle.collections.specs.Versions.{HasSinceStart, HasVersion, pins_of}

@@ -6,7 +6,6 @@ use Rattle.std.specs.List.{filter}
 use Rattle.std.proofs.lemmas.List.{take-append-drop, append-nil}
 use Rattle.std.proofs.lemmas.List.Elements.{All-append as append_all, All-cons, All-nil, filter-append}
 use Rattle.bson.specs.Tree.{Pairs}
-use Rattle.value_order.specs.KeyText.{tree_text}
 use Rattle.aggregate_model.specs.Limits.{first_fault, limit_fault}
 use Rattle.aggregate_model.specs.Pipeline.{run}
 use Rattle.aggregate_model.specs.Stage.{Stage}
@@ -14,12 +13,9 @@ use Rattle.aggregate_model.specs.Taking.{takes, SufficesTaken, IsEnough}
 use Rattle.aggregate_model.specs.EnoughLaws.{All-append, All-filter, All-front, Pass, Within, enough_of_all, enough_by_then, fault-within, filter-passes}
 use Rattle.aggregate_model.specs.EnoughLaws.{none_is_enough, passed-filter, within-fault}
 use Rattle.aggregate_model.specs.TakingLaws.{only_taken}
-use Rattle.btree.specs.declared.folding.Bounds.{Bounds}
-use Rattle.collections.specs.Folding.{documents_within, lies_within}
 use Rattle.database_model.specs.Aggregate.{AreEnough}
 use Rattle.database_model.specs.Lawful.{IsWithin}
 use Rattle.pipelines.specs.View.{pipeline_of}
-use Rattle.entry_model.specs.State.{key_of}
 use Rattle.planner.specs.IdLaws.{with_found}
 use Rattle.queries.specs.Folding.{Needs}
 use Rattle.queries.specs.declared.needed.Needing.{Needing}
@@ -192,15 +188,13 @@ module _ (start now : Needing) (all : List Pairs) (h : Needs start all now) wher
         (subst (λ (xs : List Pairs). first_fault 65535 xs ≡ None) h.split fault)
         ∙ ap (run stages 65535) (sym h.split)
 
--- where all that the pipeline takes lie within bounds, what is enough of those within is enough of all
-pub enough_within : (stages : List Stage) (few : List Pairs) (texts : Bounds) (all : List Pairs)
-    → filter (takes stages) (documents_within texts all) ≡ filter (takes stages) all → AreEnough stages few (documents_within texts all)
-    → AreEnough stages few all
-enough_within stages few texts all same h = λ fault.
-    let given = documents_within texts all in
+-- where all that the pipeline takes are among some of them, what is enough of those is enough of all
+pub enough_within : (stages : List Stage) (few : List Pairs) (chosen : Pairs → Bool) (all : List Pairs)
+    → filter (takes stages) (filter chosen all) ≡ filter (takes stages) all → AreEnough stages few (filter chosen all) → AreEnough stages few all
+enough_within stages few chosen all same h = λ fault.
+    let given = filter chosen all in
     let good : first_fault 65535 given ≡ None =
-    within-fault 65535 given
-    (All-filter (λ d. limit_fault 65535 d ≡ None) (λ d. lies_within texts (tree_text (key_of d))) all (fault-within 65535 all fault)) in
+    within-fault 65535 given (All-filter (λ d. limit_fault 65535 d ≡ None) chosen all (fault-within 65535 all fault)) in
     h good ∙ sym (only_taken stages 65535 given) ∙ ap (run stages 65535) same ∙ only_taken stages 65535 all
 
 -- ---- documents that are looked up

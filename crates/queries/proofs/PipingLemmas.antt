@@ -1,21 +1,17 @@
 -- What a pipeline makes of documents, however they were read.
-use Rattle.std.proofs.Common.{◌≡◌, List, None, Result, Ok, Err, Vec, Global, sym, ap, subst, ◌∙◌}
+use Rattle.std.proofs.Common.{◌≡◌, Bool, List, None, Result, Ok, Err, Vec, Global, sym, ap, subst, ◌∙◌}
 use Rattle.std.specs.Prelude.{All, IfOk}
 use Rattle.std.specs.List.{filter}
 use Rattle.bson.specs.Tree.{Pairs}
 use Rattle.outcome.specs.Outcome.{Gives}
-use Rattle.value_order.specs.KeyText.{tree_text}
 use Rattle.aggregate_model.specs.EnoughLaws.{All-filter, fault-within, within-fault}
 use Rattle.aggregate_model.specs.Limits.{first_fault, limit_fault}
 use Rattle.aggregate_model.specs.Pipeline.{run}
 use Rattle.aggregate_model.specs.Stage.{Stage}
 use Rattle.aggregate_model.specs.Taking.{takes}
 use Rattle.aggregate_model.specs.TakingLaws.{only_taken, stays_within}
-use Rattle.btree.specs.declared.folding.Bounds.{Bounds}
-use Rattle.collections.specs.Folding.{documents_within, lies_within}
 use Rattle.database_model.specs.Aggregate.{AreEnough}
 use Rattle.database_model.specs.Lawful.{IsWithin}
-use Rattle.entry_model.specs.State.{key_of}
 use Rattle.path.specs.declared.refusal.Refusal.{Refusal}
 use Rattle.path.specs.declared.refusal.Refusal.TheVariants as refusals
 use Rattle.queries.specs.Piping.{Pipes}
@@ -38,13 +34,12 @@ module _ (stages : List Stage) (given : Result (Vec Pairs Global) Refusal) (all 
   enough_pipes few within enough pipes = λ fault.
       subst (Gives refusals.OutOfMemory (λ v. v.items) given) (enough fault) (pipes (none_at_fault few within))
 
-  -- and of those within bounds, where all that it takes lie within them
-  pub pipes_within : (texts : Bounds) → filter (takes stages) (documents_within texts all) ≡ filter (takes stages) all
-      → Pipes stages given (documents_within texts all) → Pipes stages given all
-  pipes_within texts same pipes = λ fault.
-      let found = documents_within texts all in
+  -- and of some of them, where all that it takes are among those
+  pub pipes_within : (chosen : Pairs → Bool) → filter (takes stages) (filter chosen all) ≡ filter (takes stages) all
+      → Pipes stages given (filter chosen all) → Pipes stages given all
+  pipes_within chosen same pipes = λ fault.
+      let found = filter chosen all in
       let good : first_fault 65535 found ≡ None =
-      within-fault 65535 found
-      (All-filter (λ d. limit_fault 65535 d ≡ None) (λ d. lies_within texts (tree_text (key_of d))) all (fault-within 65535 all fault)) in
+      within-fault 65535 found (All-filter (λ d. limit_fault 65535 d ≡ None) chosen all (fault-within 65535 all fault)) in
       subst (Gives refusals.OutOfMemory (λ v. v.items) given)
       (sym (only_taken stages 65535 found) ∙ ap (run stages 65535) same ∙ only_taken stages 65535 all) (pipes good)

@@ -16,7 +16,7 @@ use Rattle.bson.specs.Tree.{Tree, scalar, null, document, Pairs, no_pairs, pair,
 use Rattle.value_order.specs.KeyText.{tree_text}
 use Rattle.value_order.specs.Order.{key_cmp}
 use Rattle.page.specs.History.{History}
-use Rattle.collections.specs.Reading.{ReadsOf}
+use Rattle.collections.specs.Lookups.{ReadsOf}
 use Rattle.collections.specs.State.{State}
 use Rattle.entry_model.specs.State.{Collection}
 use Rattle.entries.specs.declared.catalogue_reading.Catalogued.{Catalogued}

@@ -7,7 +7,7 @@ use Rattle.filter.specs.Matches.{matches}
 use Rattle.sort.specs.Sort.{SortField, order}
 use Rattle.entry_model.specs.State.{Collection}
 use Rattle.collections.specs.IndexTexts.{AreFirstTexts, Indexed}
-use Rattle.collections.specs.Reading.{IsNumbered}
+use Rattle.collections.specs.Lookups.{IsNumbered}
 use Rattle.planner.specs.FoundIds.{ids_of}
 use Rattle.planner.specs.IdLaws.{AreIdTexts, found_by}
 use Rattle.planner.specs.KeySpan.{first_key, last_key}

@@ -2,7 +2,7 @@
 
 ghost use Rattle.std.specs.Prelude.{◌≡◌, ◌⊎◌, ◌≤◌, true, All, IfOk, IfSome, List, Some, take};
 ghost use Rattle.collections.specs.IndexTexts.{IsNumberedIndex};
-ghost use Rattle.collections.specs.Reading.{ReadsOf};
+ghost use Rattle.collections.specs.Lookups.{ReadsOf};
 ghost use Rattle.database_model.specs.Find.{matching};
 ghost use Rattle.database_model.specs.Lawful.{IsWithin};
 ghost use Rattle.sort.specs.Sort.{SortField, order};

@@ -1,17 +1,15 @@
 //! How many documents of a collection match.
 
-ghost use Rattle.std.specs.Prelude.{◌≡◌, ◌≤◌, IfOk, IfSome, [], ◌∷◌, length};
-ghost use Rattle.collections.specs.Reading.{ReadsOf};
+ghost use Rattle.std.specs.Prelude.{◌≡◌, length};
+ghost use Rattle.collections.specs.Lookups.{ReadsOf};
 ghost use Rattle.database_model.specs.Find.{matching};
 ghost use Rattle.filter.specs.Matches.{matches};
 ghost use Rattle.index.specs.View.{texts_of};
-ghost use Rattle.planner.specs.IdLaws.{with_found};
 ghost use Rattle.asked_documents.specs.Asking.{IsAsked};
 ghost use Rattle.asked_documents.specs.ById.{AreIdsOf};
 ghost use Rattle.queries.specs.Folding.{Counts};
 
-use bson::NoMemory;
-use bson_bytes::{RawDoc, SpelledDocument};
+use bson_bytes::RawDoc;
 use candidate_ids::asked_ids;
 use collections::{Collections, DocumentFold};
 use entries::Catalogued;
@@ -19,7 +17,7 @@ use filter::Filter;
 use page::Disk;
 use path::Refusal;
 use std::alloc::Global;
-use walks::{fold_asked, fold_dense};
+use walks::{fold_asked, fold_by_ids};
 
 /// How many documents match a filter, of those that are lent. No more of them is read than the filter asks for.
 #[derive(Drop)]
@@ -64,73 +62,6 @@ fn count_scanned<D: Disk>(
     Ok(fold_asked(alloc, file, home, filter, counting)?.count)
 }
 
-/// One where a document was found and matches a filter, and none where it wasn't or doesn't.
-fn count_found(
-    alloc: Global,
-    filter: &Filter,
-    document: Option<SpelledDocument>,
-) -> Result<usize, NoMemory>
-    ensures count { IfOk result
-        (λ count. count ≡ length (matching filter.now (with_found document []))) }
-    ensures few { IfOk result (λ count. count ≤ 1) }
-{
-    let Some(document) = document else {
-        return Ok(0);
-    };
-    if filter.matches_raw(alloc, &document.raw())? {
-        Ok(1)
-    } else {
-        Ok(0)
-    }
-}
-
-/// How many documents of the collection of a number match a filter, where those that do have some of these `_id`s, told by their
-/// ascending key texts. Each is looked up by itself.
-fn count_one_by_one<D: Disk>(
-    alloc: Global,
-    file: &mut Collections<D>,
-    number: u32,
-    filter: &Filter,
-    ids: &[Vec<u8>],
-) -> Result<usize, Refusal>
-    ensures { ReadsOf D.history (AreIdsOf number (matches filter.now) (texts_of ids.now))
-        (λ now c count. count ≡ length (matching filter.now c.documents))
-        result file.old file.new }
-{
-    if file.is_stopped() {
-        return Err(Refusal::StorageFailed);
-    }
-    let mut count = 0usize;
-    'ids: for id in ids {
-        let found = file.document(number, id)?;
-        count = count.saturating_add(count_found(alloc, filter, found)?);
-    }
-    Ok(count)
-}
-
-/// The same by one walk from the first `_id` to the last. `None`: these are few, or lie far apart.
-fn count_side_by_side<D: Disk>(
-    alloc: Global,
-    file: &mut Collections<D>,
-    number: u32,
-    filter: &Filter,
-    ids: &[Vec<u8>],
-) -> Result<Option<usize>, Refusal>
-    ensures { ReadsOf D.history (AreIdsOf number (matches filter.now) (texts_of ids.now))
-        (λ now c found. IfSome found (λ count. count ≡ length (matching filter.now c.documents)))
-        result file.old file.new }
-{
-    let counting = Counting {
-        alloc,
-        filter,
-        count: 0,
-    };
-    match fold_dense(alloc, file, number, ids, counting)? {
-        Some(walked) => Ok(Some(walked.count)),
-        None => Ok(None),
-    }
-}
-
 /// How many documents of the collection of a number match a filter, where those that do have some of these `_id`s, told by their
 /// ascending key texts.
 fn count_by_ids<D: Disk>(
@@ -144,10 +75,12 @@ fn count_by_ids<D: Disk>(
         (λ now c count. count ≡ length (matching filter.now c.documents))
         result file.old file.new }
 {
-    match count_side_by_side(alloc, file, number, filter, ids)? {
-        Some(count) => Ok(count),
-        None => count_one_by_one(alloc, file, number, filter, ids),
-    }
+    let counting = Counting {
+        alloc,
+        filter,
+        count: 0,
+    };
+    Ok(fold_by_ids(file, number, ids, counting)?.count)
 }
 
 /// How many documents of a collection in a file match a filter. None of them is kept. Where the filter asks for an `_id`, or an

@@ -1,8 +1,8 @@
-//! What a first batch is given of where `_id`s or an index lead to the documents. Where these lie side by side and all go into the
-//! batch, they are put into it in their leaves, and none is kept.
+//! What a first batch is given of where `_id`s or an index lead to the documents. Where all go into the batch they are put into it in their
+//! leaves, and none is kept.
 
 ghost use Rattle.std.specs.Prelude.{◌≡◌, ◌<◌, ◌≤◌, ◌^◌, [], IfOk, IfSome, length};
-ghost use Rattle.collections.specs.Reading.{ReadsOf};
+ghost use Rattle.collections.specs.Lookups.{ReadsOf};
 ghost use Rattle.filter.specs.Matches.{matches};
 ghost use Rattle.index.specs.View.{texts_of};
 ghost use Rattle.asked_documents.specs.Asking.{IsAsked};
@@ -16,9 +16,7 @@ use entries::Catalogued;
 use page::Disk;
 use path::Refusal;
 use std::alloc::Global;
-use walks::{
-    BatchAsked, GivenBatch, Walk, batch_side_by_side, selected_by_ids, selected_one_by_one,
-};
+use walks::{BatchAsked, GivenBatch, Walk, batch_by_ids, selected_by_ids};
 
 /// What was looked up for a first batch.
 #[derive(Drop)]
@@ -53,11 +51,11 @@ fn looked_up_by_ids<D: Disk>(
         let found = selected_by_ids(alloc, file, number, walk.filter, ids, most)?;
         return Ok(LookedUp::Documents(found));
     }
-    let batch = batch_side_by_side(alloc, file, home, walk, asked, ids)?;
+    let batch = batch_by_ids(alloc, file, home, walk, asked, ids)?;
     if let Some(batch) = batch {
         return Ok(LookedUp::Batch(batch));
     }
-    let found = selected_one_by_one(alloc, file, number, walk.filter, ids, most)?;
+    let found = selected_by_ids(alloc, file, number, walk.filter, ids, most)?;
     Ok(LookedUp::Documents(found))
 }
 

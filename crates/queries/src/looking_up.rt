@@ -2,7 +2,7 @@
 
 ghost use Rattle.std.specs.Prelude.{◌≡◌, All, IfOk, IfSome, take};
 ghost use Rattle.std.specs.List.{filter};
-ghost use Rattle.collections.specs.Reading.{ReadsOf};
+ghost use Rattle.collections.specs.Lookups.{ReadsOf};
 ghost use Rattle.database_model.specs.Lawful.{IsWithin};
 ghost use Rattle.asked_documents.specs.Asking.{IsAsked};
 ghost use Rattle.queries.specs.PartlyTold.{IsToldOf};

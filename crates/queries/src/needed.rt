@@ -1,16 +1,14 @@
 //! The documents of a collection that a pipeline needs.
 
-ghost use Rattle.std.specs.Prelude.{◌≡◌, true, All, IfOk, IfSome, List, [], ◌∷◌, ◌++◌};
-ghost use Rattle.std.specs.List.{filter};
+ghost use Rattle.std.specs.Prelude.{◌≡◌, true, All, IfOk, List, [], ◌∷◌, ◌++◌};
 ghost use Rattle.bson.specs.Tree.{Pairs};
 ghost use Rattle.aggregate_model.specs.Taking.{takes, IsEnough, SufficesTaken};
 ghost use Rattle.pipelines.specs.View.{pipeline_of};
-ghost use Rattle.collections.specs.Reading.{ReadsOf};
+ghost use Rattle.collections.specs.Lookups.{ReadsOf};
 ghost use Rattle.command_model.specs.Insert.{documents_at};
 ghost use Rattle.database_model.specs.Aggregate.{AreEnough};
 ghost use Rattle.database_model.specs.Lawful.{IsWithin};
 ghost use Rattle.index.specs.View.{texts_of};
-ghost use Rattle.planner.specs.IdLaws.{with_found};
 ghost use Rattle.asked_documents.specs.Asking.{IsAsked};
 ghost use Rattle.asked_documents.specs.ById.{AreIdsOf};
 ghost use Rattle.queries.specs.Folding.{Needs};
@@ -19,7 +17,7 @@ use crate::needed_by_order::needed_by_order;
 use crate::taken_by::TakenBy;
 use aggregate::{most_needed, still_needed, takes_raw};
 use bson::{Document, NoMemory};
-use bson_bytes::{RawDoc, SpelledDocument};
+use bson_bytes::RawDoc;
 use candidate_ids::asked_ids;
 use collections::{Collections, DocumentFold};
 use entries::Catalogued;
@@ -28,7 +26,7 @@ use path::Refusal;
 use pipelines::Pipeline;
 use std::alloc::Global;
 use std::mem;
-use walks::{built_within, fold_asked, fold_dense, spelled_within};
+use walks::{built_within, fold_asked, fold_by_ids};
 
 /// So many documents are kept before those that aren't needed any more are let go.
 const ROOM: usize = 1024;
@@ -153,88 +151,6 @@ fn needed_scanned<D: Disk>(
     Ok(only_needed(alloc, pipeline, walked.needed)?)
 }
 
-/// These documents and one that was looked up, if it was found and a pipeline takes it.
-fn with_looked_up(
-    alloc: Global,
-    pipeline: &Pipeline,
-    these: Vec<Document>,
-    room: &mut usize,
-    found: Option<SpelledDocument>,
-) -> Result<Vec<Document>, NoMemory>
-    ensures { (seen : List Pairs) → IsEnough (pipeline_of pipeline.now) these.items seen
-        → IfOk result (λ v. IsEnough (pipeline_of pipeline.now) v.items
-        (seen ++ filter (takes (pipeline_of pipeline.now)) (with_found found []))) }
-{
-    let Some(document) = found else {
-        return Ok(these);
-    };
-    if !takes_raw(alloc, pipeline, &document.raw())? {
-        return Ok(these);
-    }
-    with_one_more(alloc, pipeline, these, room, document.document(alloc)?)
-}
-
-/// The documents of the collection of a number that a pipeline needs, where those that it takes have some of these `_id`s, told by
-/// their ascending key texts. Each is looked up by itself.
-fn needed_one_by_one<D: Disk>(
-    alloc: Global,
-    file: &mut Collections<D>,
-    number: u32,
-    pipeline: &Pipeline,
-    ids: &[Vec<u8>],
-) -> Result<Vec<Document>, Refusal>
-    ensures reads { ReadsOf D.history
-        (AreIdsOf number (takes (pipeline_of pipeline.now)) (texts_of ids.now))
-        (λ now c few. AreEnough (pipeline_of pipeline.now) few.items c.documents)
-        result file.old file.new }
-    ensures within { IfOk result (λ few. All IsWithin few.items) }
-{
-    if file.is_stopped() {
-        return Err(Refusal::StorageFailed);
-    }
-    let mut needed = Vec::new(alloc);
-    let mut room = ROOM;
-    'ids: for id in ids {
-        if are_enough(pipeline, needed.len()) {
-            return Ok(needed);
-        }
-        let found = spelled_within(alloc, file, number, id)?;
-        needed = with_looked_up(alloc, pipeline, needed, &mut room, found)?;
-    }
-    Ok(only_needed(alloc, pipeline, needed)?)
-}
-
-/// The same by one walk from the first `_id` to the last. `None`: these are few, or lie far apart.
-fn needed_side_by_side<D: Disk>(
-    alloc: Global,
-    file: &mut Collections<D>,
-    number: u32,
-    pipeline: &Pipeline,
-    ids: &[Vec<u8>],
-) -> Result<Option<Vec<Document>>, Refusal>
-    ensures reads { ReadsOf D.history
-        (AreIdsOf number (takes (pipeline_of pipeline.now)) (texts_of ids.now))
-        (λ now c found. IfSome found
-        (λ few. AreEnough (pipeline_of pipeline.now) few.items c.documents))
-        result file.old file.new }
-    ensures within { IfOk result (λ found. IfSome found (λ few. All IsWithin few.items)) }
-{
-    let needing = Needing {
-        alloc,
-        pipeline,
-        needed: Vec::new(alloc),
-        room: ROOM,
-        is_enough: are_enough(pipeline, 0),
-    };
-    let Some(walked) = fold_dense(alloc, file, number, ids, needing)? else {
-        return Ok(None);
-    };
-    if walked.is_enough {
-        return Ok(Some(walked.needed));
-    }
-    Ok(Some(only_needed(alloc, pipeline, walked.needed)?))
-}
-
 /// The documents of the collection of a number that a pipeline needs, where those that it takes have some of these `_id`s, told by
 /// their ascending key texts.
 pub(crate) fn needed_by_ids<D: Disk>(
@@ -250,10 +166,18 @@ pub(crate) fn needed_by_ids<D: Disk>(
         result file.old file.new }
     ensures within { IfOk result (λ few. All IsWithin few.items) }
 {
-    match needed_side_by_side(alloc, file, number, pipeline, ids)? {
-        Some(few) => Ok(few),
-        None => needed_one_by_one(alloc, file, number, pipeline, ids),
+    let needing = Needing {
+        alloc,
+        pipeline,
+        needed: Vec::new(alloc),
+        room: ROOM,
+        is_enough: are_enough(pipeline, 0),
+    };
+    let walked = fold_by_ids(file, number, ids, needing)?;
+    if walked.is_enough {
+        return Ok(walked.needed);
     }
+    Ok(only_needed(alloc, pipeline, walked.needed)?)
 }
 
 /// The documents of a collection in a file that a pipeline needs, in ascending order of `_id`: of those that it takes no more than it

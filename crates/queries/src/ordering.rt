@@ -1,7 +1,7 @@
 //! The first documents in an order. No more of them are kept than are asked for, and some that come too late.
 
 ghost use Rattle.std.specs.Prelude.{◌≡◌, All, IfOk, OnOk, take};
-ghost use Rattle.collections.specs.Reading.{ReadsOf};
+ghost use Rattle.collections.specs.Lookups.{ReadsOf};
 ghost use Rattle.database_model.specs.Find.{matching};
 ghost use Rattle.database_model.specs.Lawful.{IsWithin};
 ghost use Rattle.filter.specs.Matches.{matches};

@@ -4,7 +4,7 @@ ghost use Rattle.std.specs.Prelude.{◌≡◌, All, IfOk, [], length};
 ghost use Rattle.aggregate.specs.Gathering.{HasGathered};
 ghost use Rattle.aggregate_model.specs.Taking.{takes};
 ghost use Rattle.pipelines.specs.View.{pipeline_of};
-ghost use Rattle.collections.specs.Reading.{ReadsOf};
+ghost use Rattle.collections.specs.Lookups.{ReadsOf};
 ghost use Rattle.database_model.specs.Lawful.{IsWithin};
 ghost use Rattle.index.specs.View.{texts_of};
 ghost use Rattle.asked_documents.specs.Asking.{IsAsked};

@@ -5,7 +5,7 @@ ghost use Rattle.std.specs.Prelude.{◌≡◌, IfOk, OnOk, map, take};
 ghost use Rattle.std.specs.List.{AllZip};
 ghost use Rattle.bson.specs.Lawful.{NoZero};
 ghost use Rattle.bson.specs.Lookup.{lookup};
-ghost use Rattle.collections.specs.Reading.{ReadsOf};
+ghost use Rattle.collections.specs.Lookups.{ReadsOf};
 ghost use Rattle.database_model.specs.Find.{matching};
 ghost use Rattle.index.specs.View.{texts_of};
 ghost use Rattle.sort.specs.Sort.{order};

@@ -17,7 +17,7 @@ use Rattle.path.specs.declared.refusal.Refusal.{Refusal}
 use Rattle.path.specs.declared.refusal.Refusal.TheVariants as refusals
 use Rattle.collections.specs.Calls.{HasReadCause}
 use Rattle.collections.specs.Folding.{IsFolded, documents_within}
-use Rattle.collections.specs.Reading.{IsNumbered, OrMemory, ReadsOf}
+use Rattle.collections.specs.Lookups.{IsNumbered, OrMemory, ReadsOf}
 use Rattle.collections.specs.State.{State}
 use Rattle.collections.specs.Versions.{ReadsVersion}
 use Rattle.collections.specs.View.{is_stopped}
@@ -52,9 +52,9 @@ window_fewer skip (suc n) xs = omega (arith, length-take (suc n) (drop skip xs),
 
 -- The documents that match, of those from where a walk goes on, were lent to a fold, and how they stand in their collection.
 pub record AreLent (w : Walk) (start : Giving) (ds : List Pairs) (done : Giving) : Type 0 where
-  pub texts : Bounds
-  pub folded : IsFolded Gives start (documents_within texts ds) done
-  pub same : filter (matches w.filter.now) (documents_within texts ds) ≡ filter (matches w.filter.now) (rest_from w.from.now ds)
+  pub lent : List Pairs
+  pub folded : IsFolded Gives start lent done
+  pub same : filter (matches w.filter.now) lent ≡ filter (matches w.filter.now) (rest_from w.from.now ds)
   pub storable : All IsStorable ds
   pub stored : All IsStored ds
   pub rising : IsRising ds
@@ -62,7 +62,7 @@ pub record AreLent (w : Walk) (start : Giving) (ds : List Pairs) (done : Giving)
 module _ (w : Walk) (asked : BatchAsked) (start done : Giving) (ds : List Pairs) (b : GivenBatch) (begun : IsBegun w asked start) (h : AreLent w start ds done)
     (ended : IsEnded done asked b) where
   abbrev lent : List Pairs
-  lent = documents_within h.texts ds
+  lent = h.lent
 
   abbrev rest : List Pairs
   rest = rest_of w ds
@@ -150,7 +150,7 @@ lent_of : (w : Walk) (start done : Giving) (texts : Bounds) (first : List ℕ) (
 lent_of w start done texts first end from to pass now c number state numbered stored folded =
     let kept = (found_collection now c.name c state numbered.found).0 in
     record {
-      texts = texts;
+      lent = documents_within texts c.documents;
       folded = folded;
       same = (λ i. filter (matches w.filter.now) (filter (has_id_within (from i) (to i)) c.documents)) ∙ pass c.documents kept.storable stored;
       storable = kept.storable;

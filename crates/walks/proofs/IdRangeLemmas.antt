@@ -19,8 +19,8 @@ use Rattle.entries.specs.OtherKeys.{IsEndOf}
 use Rattle.entry_model.specs.State.{key_of}
 use Rattle.entries.specs.declared.catalogue_reading.Catalogued.{Catalogued}
 use Rattle.entry_model.proofs.FoundLawLemmas.{found_collection}
-use Rattle.collections.specs.Folding.{IsFolded, documents_within}
-use Rattle.collections.specs.Reading.{IsNumbered, ReadsOf}
+use Rattle.collections.specs.Folding.{IsFolded, documents_within, lies_within}
+use Rattle.collections.specs.Lookups.{IsNumbered, ReadsOf}
 use Rattle.collections.specs.State.{State}
 use Rattle.collections.specs.View.{is_stopped}
 use Rattle.database_model.specs.Lawful.{IsStored}
@@ -131,7 +131,7 @@ module _ {D F : Type 0} (history : D → History) (makes : F → List Pairs → 
         other = c;
         was = asked.numbered;
         right = λ done folded. record {
-          texts = texts;
+          chosen = λ d. lies_within texts (tree_text (key_of d));
           same =
               (λ i. filter passes (filter (has_id_within (from i) (to i)) c.documents))
               ∙ within c.documents ((found_collection now c.name c state asked.numbered.found).0).storable asked.stored;

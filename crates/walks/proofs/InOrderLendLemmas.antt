@@ -21,7 +21,7 @@ use Rattle.entry_model.proofs.LawfulParts.{id_is_key}
 use Rattle.entry_model.proofs.FoundLawLemmas.{found_collection, found_document}
 use Rattle.entry_model.proofs.MemberLemmas.{Among, among_back, among_of, contains_of, of_all}
 use Rattle.collections.specs.Calls.{ExtendsTurn, HasReadCause, IsUnchanged}
-use Rattle.collections.specs.Reading.{IsPlaceOf, stored_at}
+use Rattle.collections.specs.Lookups.{IsPlaceOf, stored_at}
 use Rattle.collections.specs.Standing.{HasState}
 use Rattle.collections.specs.State.{State}
 use Rattle.collections.specs.Versions.{HasVersion, ReadsVersion}

@@ -18,7 +18,7 @@ use Rattle.entry_model.specs.StateReads.{find_document}
 use Rattle.entry_model.proofs.LawfulParts.{id_is_key}
 use Rattle.entry_model.proofs.FoundLawLemmas.{found_collection, found_document}
 use Rattle.collections.specs.Calls.{ExtendsTurn, HasReadCause, IsUnchanged}
-use Rattle.collections.specs.Reading.{IsPlaceOf, Place, stored_at}
+use Rattle.collections.specs.Lookups.{IsPlaceOf, Place, stored_at}
 use Rattle.collections.specs.Standing.{HasState}
 use Rattle.collections.specs.State.{State}
 use Rattle.collections.specs.Versions.{HasVersion, ReadsVersion}

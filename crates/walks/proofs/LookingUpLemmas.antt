@@ -19,7 +19,7 @@ use Rattle.planner.specs.IdLaws.{AreIdTexts, found_by, with_found}
 use Rattle.planner.proofs.IdLemmas.{finds_by_ids}
 use Rattle.collections.specs.Calls.{ExtendsTurn, IsUnchanged}
 use Rattle.entry_model.specs.LawfulState.{IsLawfulState}
-use Rattle.collections.specs.Reading.{IsNumbered, IsPlaceOf, Place, ReadsOf, stored_at}
+use Rattle.collections.specs.Lookups.{IsNumbered, IsPlaceOf, Place, ReadsOf, stored_at}
 use Rattle.collections.specs.Standing.{HasState, IsTurnOf}
 use Rattle.collections.specs.State.{State}
 use Rattle.collections.specs.View.{disk_history, is_stopped}

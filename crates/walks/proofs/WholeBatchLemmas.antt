@@ -1,10 +1,10 @@
--- A first batch of documents whose `_id`s lie side by side.
+-- A first batch of documents of which the `_id`s are told.
 use Rattle.std.proofs.Common.{◌≡◌, List, [], ℕ, Bool, Option, Some, None, false, refl, sym, ap, ◌∙◌}
-use Rattle.std.specs.Prelude.{IfSome, Result, is_some}
+use Rattle.std.specs.Prelude.{Result, is_some}
 use Rattle.std.specs.List.{filter}
 use Rattle.page.specs.History.{History}
 use Rattle.path.specs.declared.refusal.Refusal.{Refusal}
-use Rattle.collections.specs.Reading.{ReadsOf}
+use Rattle.collections.specs.Lookups.{ReadsOf}
 use Rattle.collections.specs.State.{State}
 use Rattle.collections.specs.View.{is_stopped}
 use Rattle.filter.specs.Matches.{matches}
@@ -27,7 +27,7 @@ module _ (w : Walk) (from : w.from.now ≡ []) (start : Giving) (home : Catalogu
   lent_walked now c done state h walked =
       let kept = (found_collection now c.name c state h.asked.numbered.found).0 in
       record {
-        texts = walked.texts;
+        lent = filter walked.chosen c.documents;
         folded = walked.folded;
         same = walked.same
             ∙ ap (filter (matches w.filter.now)) (sym (ap (λ (f : List ℕ). rest_from f c.documents) from ∙ from_beginning c.documents));
@@ -37,20 +37,14 @@ module _ (w : Walk) (from : w.from.now ≡ []) (start : Giving) (home : Catalogu
       }
 
   -- of the collection that is asked
-  pub lent_asked : {D : Type 0} (history : D → History) (old new : State D) (r : Result (Option Giving) Refusal) → is_stopped old ≡ false
-      → ReadsOf history (AreIdsOf home.number (matches w.filter.now) texts)
-      (λ now c (o : Option Giving). IfSome o (IsWalked (matches w.filter.now) Gives start c.documents)) r old new
-      → ReadsOf history (AreIdsOfAsked home (matches w.filter.now) texts) (λ now c (o : Option Giving). IfSome o (AreLent w start c.documents)) r old new
+  pub lent_asked : {D : Type 0} (history : D → History) (old new : State D) (r : Result Giving Refusal) → is_stopped old ≡ false
+      → ReadsOf history (AreIdsOf home.number (matches w.filter.now) texts) (λ now c done. IsWalked (matches w.filter.now) Gives start c.documents done) r old
+      new
+      → ReadsOf history (AreIdsOfAsked home (matches w.filter.now) texts) (λ now c done. AreLent w start c.documents done) r old new
   lent_asked history old new r running reads =
       reads_as history (AreIdsOfAsked home (matches w.filter.now) texts) (AreIdsOf home.number (matches w.filter.now) texts)
-      (λ now c (o : Option Giving). IfSome o (IsWalked (matches w.filter.now) Gives start c.documents))
-      (λ now c (o : Option Giving). IfSome o (AreLent w start c.documents)) old new r running reads
-      (λ now state c asked. record { other = c; was = asked.ids; right = λ o walked. if_walked now c state asked o walked })
-    where
-      if_walked : (now : List Collection) (c : Collection) → IsLawfulState now → AreIdsOfAsked home (matches w.filter.now) texts now c → (o : Option Giving)
-          → IfSome o (IsWalked (matches w.filter.now) Gives start c.documents) → IfSome o (AreLent w start c.documents)
-      if_walked now c state asked None h = tt
-      if_walked now c state asked (Some done) h = lent_walked now c done state asked h
+      (λ now c done. IsWalked (matches w.filter.now) Gives start c.documents done) (λ now c done. AreLent w start c.documents done) old new r running reads
+      (λ now state c asked. record { other = c; was = asked.ids; right = λ done walked. lent_walked now c done state asked walked })
 
 pub is_none : {X : Type 0} (o : Option X) (some : Bool) → some ≡ is_some o → some ≡ false → o ≡ None
 is_none None some told is = refl

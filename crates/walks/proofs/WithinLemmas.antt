@@ -14,7 +14,7 @@ use Rattle.entry_model.specs.LawfulState.{IsLawfulState, IsStorable}
 use Rattle.entry_model.specs.State.{Collection}
 use Rattle.entry_model.proofs.FoundLawLemmas.{found_collection, found_document}
 use Rattle.collections.specs.Calls.{HasReadCause}
-use Rattle.collections.specs.Reading.{IsPlaceOf, Place, ReadsOf, stored_at}
+use Rattle.collections.specs.Lookups.{IsPlaceOf, Place, ReadsOf, stored_at}
 use Rattle.collections.specs.Standing.{HasState, IsTurnOf}
 use Rattle.collections.specs.State.{State}
 use Rattle.collections.specs.View.{disk_history, is_stopped}

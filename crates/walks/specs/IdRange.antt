@@ -10,7 +10,7 @@ use Rattle.btree.specs.declared.folding.Bounds.{Bounds}
 use Rattle.filter.specs.Condition.{Conditions}
 use Rattle.entry_model.specs.LawfulState.{IsStorable}
 use Rattle.entry_model.specs.State.{key_of}
-use Rattle.collections.specs.Folding.{IsFolded, documents_within}
+use Rattle.collections.specs.Folding.{IsFolded}
 use Rattle.database_model.specs.Lawful.{IsStored}
 use Rattle.planner.specs.KeyRange.{IsSpellable}
 use Rattle.plan_model.specs.Plan.{Range, range_in}
@@ -32,9 +32,9 @@ PassWithin passes first end =
     (ds : List Pairs) → All IsStorable ds → All IsStored ds
     → filter passes (filter (has_id_within first end) ds) ≡ filter passes ds
 
--- A fold was lent the documents within some bounds, all that pass among them.
+-- A fold was lent some of the documents, all that pass among them.
 pub record IsWalked {F : Type 0} (passes : Pairs → Bool) (makes : F → List Pairs → F → Type 0)
     (start : F) (documents : List Pairs) (now : F) : Type 0 where
-  pub texts : Bounds
-  pub same : filter passes (documents_within texts documents) ≡ filter passes documents
-  pub folded : IsFolded makes start (documents_within texts documents) now
+  pub chosen : Pairs → Bool
+  pub same : filter passes (filter chosen documents) ≡ filter passes documents
+  pub folded : IsFolded makes start (filter chosen documents) now

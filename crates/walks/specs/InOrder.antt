@@ -17,7 +17,7 @@ use Rattle.index.specs.KeyTexts.{encoded_keys}
 use Rattle.entry_model.specs.State.{Collection, key_of}
 use Rattle.entry_model.specs.StateReads.{find_document}
 use Rattle.collections.specs.IndexTexts.{Indexed, IsTextFrom}
-use Rattle.collections.specs.Reading.{IsNumbered}
+use Rattle.collections.specs.Lookups.{IsNumbered}
 use Rattle.planner.specs.KeyRange.{IsSpellable}
 use Rattle.planner.specs.KeyScan.{id_text}
 use Rattle.planner.specs.KeySpan.{last_key}

@@ -1,5 +1,4 @@
 pub mod Batches
-pub mod Dense
 pub mod IdRange
 pub mod InOrder
 pub mod Listed

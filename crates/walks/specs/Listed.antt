@@ -6,7 +6,7 @@ use Rattle.projection.specs.Projection.{Projection, project}
 use Rattle.entry_model.specs.LawfulState.{IsStorable}
 use Rattle.entry_model.specs.State.{Collection, key_of}
 use Rattle.entry_model.specs.StateReads.{find_document}
-use Rattle.collections.specs.Reading.{IsNumbered}
+use Rattle.collections.specs.Lookups.{IsNumbered}
 use Rattle.database_model.specs.Cursors.{batch_of, batch_reply}
 use Rattle.database_model.specs.Lawful.{IsStored}
 use Rattle.database_model.specs.Refusals.{ok_reply}

@@ -2,7 +2,7 @@
 //! ends where its batch is full.
 
 ghost use Rattle.std.specs.Prelude.{◌≡◌, ◌<◌, ◌≤◌, ◌^◌, IfErr, IfOk, [], IfSome, false, length, option_map};
-ghost use Rattle.collections.specs.Reading.{ReadsOf};
+ghost use Rattle.collections.specs.Lookups.{ReadsOf};
 ghost use Rattle.collections.specs.Versions.{ReadsVersion};
 ghost use Rattle.filter.specs.Matches.{matches};
 ghost use Rattle.index.specs.View.{texts_of};
@@ -16,7 +16,7 @@ ghost use Rattle.asked_documents.specs.Asking.{IsAsked, IsAskedIn};
 ghost use Rattle.asked_documents.specs.ById.{AreIdsOfAsked};
 ghost use Rattle.walks.specs.Batches.{Gives, IsBegun, IsEnded, IsGivenBatch, IsWholeBatch, PassFrom, Puts, is_over, is_reached};
 
-use crate::dense::fold_dense;
+use crate::by_ids::fold_by_ids;
 use crate::id_range::{IdSpan, span_asked};
 use crate::within::{document_of, is_within};
 use bson::NoMemory;
@@ -262,9 +262,9 @@ pub fn batch_of_version<D: Disk>(
     Ok(ended(given, asked)?)
 }
 
-/// A batch of what a walk gives from its beginning of documents that have some of these ascending `_id`s, by one walk from the first
-/// `_id` to the last. `None`: others are left, or the `_id`s are few, or lie far apart.
-pub fn batch_side_by_side<D: Disk>(
+/// A batch of what a walk gives from its beginning of documents that have some of these ascending `_id`s, and of no others. `None`: others
+/// are left.
+pub fn batch_by_ids<D: Disk>(
     alloc: Global,
     file: &mut Collections<D>,
     home: &Catalogued,
@@ -285,9 +285,7 @@ pub fn batch_side_by_side<D: Disk>(
         return Err(Refusal::StorageFailed);
     }
     let giving = begun(alloc, walk, asked)?;
-    let Some(given) = fold_dense(alloc, file, home.number, ids, giving)? else {
-        return Ok(None);
-    };
+    let given = fold_by_ids(file, home.number, ids, giving)?;
     if given.next.is_some() {
         return Ok(None);
     }

@@ -1,20 +1,22 @@
-//! Documents of which the `_id`s are told: each is looked up by itself, or one walk from the first to the last finds them.
+//! Documents of which the `_id`s are told: one walk comes by them and passes over all others, or one is looked up by itself.
 
-ghost use Rattle.std.specs.Prelude.{◌≡◌, ◌++◌, [], All, IfOk, IfSome, OnOk, take};
+ghost use Rattle.std.specs.Prelude.{◌≡◌, ◌++◌, [], All, Bool, IfOk, IfSome, OnOk, take};
 ghost use Rattle.std.specs.List.{filter};
 ghost use Rattle.asked_documents.specs.ById.{AreIdsOf};
-ghost use Rattle.collections.specs.Reading.{IsPlaceOf, ReadsOf, stored_at};
+ghost use Rattle.bson.specs.Tree.{Pairs};
+ghost use Rattle.collections.specs.Folding.{HasTaken};
+ghost use Rattle.collections.specs.Lookups.{IsPlaceOf, ReadsOf, stored_at};
 ghost use Rattle.database_model.specs.Lawful.{IsWithin};
 ghost use Rattle.index.specs.View.{texts_of};
 ghost use Rattle.planner.specs.IdLaws.{with_found};
+ghost use Rattle.walks.specs.IdRange.{IsWalked};
 
-use crate::dense::fold_dense;
 use crate::scanning::Selecting;
 use crate::within::is_within;
 use asked_documents::DocumentPredicate;
 use bson::NoMemory;
 use bson_bytes::SpelledDocument;
-use collections::Collections;
+use collections::{Collections, DocumentFold};
 use page::Disk;
 use path::Refusal;
 use std::alloc::Global;
@@ -77,59 +79,21 @@ pub fn look_up<D: Disk, S: DocumentPredicate>(
     Ok(put_found(alloc, which, found, document)?)
 }
 
-/// The documents of the collection of a number that are looked for and have one of these `_id`s, told by their ascending key texts:
-/// the first ones, up to so many, each looked up by itself.
-pub fn selected_one_by_one<D: Disk, S: DocumentPredicate>(
-    alloc: Global,
+/// Lends the documents of the collection of a number that have one of these `_id`s, told by their ascending key texts, to a fold, and
+/// hands it back. No other is read.
+pub fn fold_by_ids<D: Disk, F: DocumentFold + Drop>(
     file: &mut Collections<D>,
     number: u32,
-    which: &S,
     ids: &[Vec<u8>],
-    most: usize,
-) -> Result<Vec<SpelledDocument>, Refusal>
-    ensures reads { ReadsOf D.history (AreIdsOf number (S.selects which.now) (texts_of ids.now))
-        (λ now c found. found.items ≡ take most (filter (S.selects which.now) c.documents))
-        result file.old file.new }
-    ensures within { IfOk result (λ found. All IsWithin found.items) }
+    fold: F,
+) -> Result<F, Refusal>
+    requires { F.makes fold [] fold }
+    ensures reads { (passes : Pairs → Bool)
+        → ReadsOf D.history (AreIdsOf number passes (texts_of ids.now))
+        (λ now c done. IsWalked passes F.makes fold c.documents done) result file.old file.new }
+    ensures taken { IfOk result (HasTaken F.makes fold) }
 {
-    if file.is_stopped() {
-        return Err(Refusal::StorageFailed);
-    }
-    let mut found = Vec::new(alloc);
-    'ids: for id in ids {
-        if most <= found.len() {
-            return Ok(found);
-        }
-        look_up(alloc, file, number, which, id, &mut found)?;
-    }
-    Ok(found)
-}
-
-/// The same by one walk from the first `_id` to the last. `None`: these are few, or lie far apart.
-fn selected_side_by_side<D: Disk, S: DocumentPredicate>(
-    alloc: Global,
-    file: &mut Collections<D>,
-    number: u32,
-    which: &S,
-    ids: &[Vec<u8>],
-    most: usize,
-) -> Result<Option<Vec<SpelledDocument>>, Refusal>
-    ensures reads { ReadsOf D.history (AreIdsOf number (S.selects which.now) (texts_of ids.now))
-        (λ now c found. IfSome found
-        (λ v. v.items ≡ take most (filter (S.selects which.now) c.documents)))
-        result file.old file.new }
-    ensures within { IfOk result (λ found. IfSome found (λ v. All IsWithin v.items)) }
-{
-    let selecting = Selecting {
-        alloc,
-        which,
-        most,
-        found: Vec::new(alloc),
-    };
-    match fold_dense(alloc, file, number, ids, selecting)? {
-        Some(walked) => Ok(Some(walked.found)),
-        None => Ok(None),
-    }
+    file.fold_documents_among(number, ids, fold)
 }
 
 /// The documents of the collection of a number that are looked for and have one of these `_id`s, told by their ascending key texts:
@@ -147,8 +111,11 @@ pub fn selected_by_ids<D: Disk, S: DocumentPredicate>(
         result file.old file.new }
     ensures within { IfOk result (λ found. All IsWithin found.items) }
 {
-    match selected_side_by_side(alloc, file, number, which, ids, most)? {
-        Some(found) => Ok(found),
-        None => selected_one_by_one(alloc, file, number, which, ids, most),
-    }
+    let selecting = Selecting {
+        alloc,
+        which,
+        most,
+        found: Vec::new(alloc),
+    };
+    Ok(fold_by_ids(file, number, ids, selecting)?.found)
 }

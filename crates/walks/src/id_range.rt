@@ -2,7 +2,7 @@
 
 ghost use Rattle.std.specs.Prelude.{◌≡◌, IfOk, IfSome, option_map, []};
 ghost use Rattle.collections.specs.Folding.{HasTaken};
-ghost use Rattle.collections.specs.Reading.{ReadsOf};
+ghost use Rattle.collections.specs.Lookups.{ReadsOf};
 ghost use Rattle.filter.specs.Matches.{matches};
 ghost use Rattle.planner.specs.View.{range_of};
 ghost use Rattle.asked_documents.specs.Asking.{IsAsked};

@@ -4,18 +4,14 @@
 
 mod batches;
 mod by_ids;
-mod dense;
 mod id_range;
 mod in_order;
 mod listed;
 mod scanning;
 mod within;
 
-pub use batches::{
-    BatchAsked, GivenBatch, Walk, batch_of_turn, batch_of_version, batch_side_by_side,
-};
-pub use by_ids::{look_up, selected_by_ids, selected_one_by_one, spelled_within};
-pub use dense::fold_dense;
+pub use batches::{BatchAsked, GivenBatch, Walk, batch_by_ids, batch_of_turn, batch_of_version};
+pub use by_ids::{fold_by_ids, look_up, selected_by_ids, spelled_within};
 pub use id_range::fold_asked;
 pub use in_order::{MOST_READ, OrderedWalk, batch_in_order};
 pub use listed::{Listed, batch_of_listed, listed_texts};

@@ -2,7 +2,7 @@
 
 ghost use Rattle.std.specs.Prelude.{◌≡◌, All, IfOk, IfErr, IfSome, [], ◌∷◌, take};
 ghost use Rattle.std.specs.List.{filter};
-ghost use Rattle.collections.specs.Reading.{ReadsOf};
+ghost use Rattle.collections.specs.Lookups.{ReadsOf};
 ghost use Rattle.database_model.specs.Lawful.{IsWithin};
 ghost use Rattle.entry_model.specs.LawfulState.{IsStorable};
 ghost use Rattle.planner.specs.IdLaws.{with_found};

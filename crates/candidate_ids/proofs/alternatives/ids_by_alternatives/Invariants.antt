@@ -1,5 +1,5 @@
 use Rattle.std.specs.Prelude.{Ok}
-use Rattle.collections.specs.Reading.{ReadsOf}
+use Rattle.collections.specs.Lookups.{ReadsOf}
 use Rattle.asked_documents.specs.Asking.{IsAsked}
 use Rattle.candidate_ids.proofs.alternatives.ids_by_alternatives.Given as goal
 

@@ -1,5 +1,5 @@
 use Rattle.std.specs.Prelude.{Ok, [], drop, option_map}
-use Rattle.collections.specs.Reading.{ReadsOf}
+use Rattle.collections.specs.Lookups.{ReadsOf}
 use Rattle.filter.specs.View.{conditions_of}
 use Rattle.index.specs.View.{texts_of}
 use Rattle.candidate_ids.specs.Alternatives.{one_holds}

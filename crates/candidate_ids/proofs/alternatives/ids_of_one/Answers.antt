@@ -1,6 +1,6 @@
 use Rattle.std.proofs.Common.{ℕ, [], List, Option, Vec, Global, Bor, sym, subst}
 use Rattle.std.specs.Prelude.{IfSome, option_map}
-use Rattle.collections.specs.Reading.{ReadsOf}
+use Rattle.collections.specs.Lookups.{ReadsOf}
 use Rattle.filter.specs.Matches.{holds}
 use Rattle.filter.specs.View.{condition_of}
 use Rattle.index.specs.View.{texts_of}

@@ -2,7 +2,7 @@ use Rattle.std.proofs.Common.{◌≡◌, ℕ, List, Option, Some, Ok, Err, Vec, 
 use Rattle.std.specs.Prelude.{IfSome}
 use Rattle.std.proofs.lemmas.Result.{err_from_is_err_and}
 use Rattle.collections.specs.IndexTexts.{AreTextsBetween, IsNumberedIndex}
-use Rattle.collections.specs.Reading.{ReadsOf}
+use Rattle.collections.specs.Lookups.{ReadsOf}
 use Rattle.index.specs.View.{texts_of}
 use Rattle.planner.specs.View.{range_of}
 use Rattle.candidate_ids.specs.ByIndex.{AreIdsInRange}

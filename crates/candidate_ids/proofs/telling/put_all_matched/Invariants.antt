@@ -1,5 +1,5 @@
 use Rattle.std.specs.Prelude.{◌++◌, Ok, drop, map}
-use Rattle.collections.specs.Reading.{ReadsOf}
+use Rattle.collections.specs.Lookups.{ReadsOf}
 use Rattle.index.specs.View.{texts_of}
 use Rattle.asked_documents.specs.Asking.{IsAsked}
 use Rattle.candidate_ids.proofs.TellingLemmas.{AreToldBut}

@@ -1,6 +1,6 @@
 use Rattle.std.proofs.Common.{◌≡◌, ◌<◌, ◌≤◌, [], ◌∷◌, length, ap, ◌∙◌, arith, length-append}
 use Rattle.std.proofs.lemmas.Result.{err_from_is_err_and}
-use Rattle.collections.specs.Reading.{IsOfDocument}
+use Rattle.collections.specs.Lookups.{IsOfDocument}
 use Rattle.collections.proofs.FoundLemmas.{AtPlace, each_same, item_at, made_all, made_more}
 use Rattle.collections.proofs.lookups.documents_of.Goals as goal
 

@@ -1,6 +1,6 @@
 use Rattle.std.proofs.Common.{◌≡◌, List, length, take}
 use Rattle.bson.specs.Tree.{Pairs}
-use Rattle.collections.specs.Reading.{AreEach, IsOfDocument}
+use Rattle.collections.specs.Lookups.{AreEach, IsOfDocument}
 use Rattle.collections.proofs.lookups.documents_of.Given as goal
 
 abbrev pub invariant-loop-entry : goal.invariant-loop-entry

@@ -1,6 +1,6 @@
 use Rattle.std.proofs.Common.{◌<◌, ◌≤◌, length, arith}
 use Rattle.std.proofs.lemmas.Result.{err_from_is_err_and}
-use Rattle.collections.specs.Reading.{IsNameOf, IsOfCollection, name_in, name_of}
+use Rattle.collections.specs.Lookups.{IsNameOf, IsOfCollection, name_in, name_of}
 use Rattle.collections.proofs.FoundLemmas.{AtPlace, each_mapped, item_at, made_all, made_more}
 use Rattle.collections.proofs.lookups.names_at.Goals as goal
 

@@ -1,6 +1,6 @@
 use Rattle.std.proofs.Common.{List, take}
 use Rattle.entry_model.specs.State.{Collection}
-use Rattle.collections.specs.Reading.{AreEach, IsNameOf, IsOfCollection}
+use Rattle.collections.specs.Lookups.{AreEach, IsNameOf, IsOfCollection}
 use Rattle.collections.proofs.lookups.names_at.Given as goal
 
 abbrev pub invariant-loop-entry : goal.invariant-loop-entry

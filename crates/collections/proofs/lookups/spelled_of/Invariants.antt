@@ -1,6 +1,6 @@
 use Rattle.std.proofs.Common.{◌≡◌, ◌+◌, List, length}
 use Rattle.bson.specs.Tree.{Pairs}
-use Rattle.collections.specs.Reading.{AreEach, IsOfDocument}
+use Rattle.collections.specs.Lookups.{AreEach, IsOfDocument}
 use Rattle.collections.proofs.FoundLemmas.{AreMade}
 use Rattle.collections.proofs.lookups.spelled_of.Given as goal
 

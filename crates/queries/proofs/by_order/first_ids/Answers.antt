@@ -1,7 +1,7 @@
 use Rattle.std.proofs.Common.{◌≡◌, ℕ, List, Ok, Err, subst, ◌∙◌}
 use Rattle.std.proofs.lemmas.Result.{err_from_is_err_and}
 use Rattle.collections.specs.IndexTexts.{AreFirstTexts, IsNumberedIndex}
-use Rattle.collections.specs.Reading.{ReadsOf}
+use Rattle.collections.specs.Lookups.{ReadsOf}
 use Rattle.collections.specs.declared.index_texts.FirstTexts.{FirstTexts}
 use Rattle.index.specs.View.{texts_of}
 use Rattle.planner.specs.View.{range_of}

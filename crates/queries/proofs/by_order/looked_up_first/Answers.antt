@@ -4,7 +4,7 @@ use Rattle.std.specs.List.{filter}
 use Rattle.std.proofs.lemmas.List.{drop_all}
 use Rattle.std.proofs.lemmas.Result.{err_from_is_err_and}
 use Rattle.bson.specs.Tree.{Pairs}
-use Rattle.collections.specs.Reading.{stored_at}
+use Rattle.collections.specs.Lookups.{stored_at}
 use Rattle.database_model.specs.Find.{matching}
 use Rattle.filter.specs.Matches.{matches}
 use Rattle.sort.specs.Sort.{order}

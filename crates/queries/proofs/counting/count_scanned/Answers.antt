@@ -1,6 +1,6 @@
 use Rattle.std.proofs.Common.{◌≡◌, ℕ, Ok, length, refl, ap, ◌∙◌, arith}
+use Rattle.std.specs.List.{filter}
 use Rattle.std.proofs.lemmas.Result.{err_from_is_err_and}
-use Rattle.collections.specs.Folding.{documents_within}
 use Rattle.collections.proofs.ReadingLemmas.{asked_on, asked_refused}
 use Rattle.database_model.specs.Find.{matching}
 use Rattle.filter.specs.Matches.{matches}
@@ -31,4 +31,4 @@ returns g c =
     (λ now of (count : ℕ). count ≡ length (matching c.args.filter.now of.documents)) c.args.file.now c.fold_asked.new.file
     (λ now of done. IsWalked (matches c.args.filter.now) Counts start of.documents done) done (Ok done.count) c.in_ok-fold_asked.ensures.reads
     (λ now of asked walked.
-    all_counted start done (documents_within walked.texts of.documents) refl walked.folded.few walked.folded.made ∙ ap length walked.same)
+    all_counted start done (filter walked.chosen of.documents) refl walked.folded.few walked.folded.made ∙ ap length walked.same)

@@ -49,7 +49,7 @@ returns-in_err-batch-clause-reads g c =
     rw (e.1, e.2)
     (reads_refused g.D.Disk.history (AreIdsOfAsked c.args.home.now (matches w.filter.now) (texts_of c.args.ids.now))
     (λ now of (o : Option GivenBatch). IfSome o (IsWholeBatch w c.args.asked.now of.documents))
-    (λ now of (found : LookedUp). IsLookedUp w c.args.asked.now c.args.most of.documents found) c.args.file.now c.batch_side_by_side.new.file
+    (λ now of (found : LookedUp). IsLookedUp w c.args.asked.now c.args.most of.documents found) c.args.file.now c.batch_by_ids.new.file
     c.in_err-batch.field-0.0 c.in_err-batch.ensures.reads)
 
 pub returns-in-Some-clause-reads : goal.returns-in-Some-clause-reads
@@ -57,7 +57,7 @@ returns-in-Some-clause-reads g c =
     let w = c.args.walk.now in
     reads_made g.D.Disk.history (AreIdsOfAsked c.args.home.now (matches w.filter.now) (texts_of c.args.ids.now))
     (λ now of (o : Option GivenBatch). IfSome o (IsWholeBatch w c.args.asked.now of.documents))
-    (λ now of (found : LookedUp). IsLookedUp w c.args.asked.now c.args.most of.documents found) c.args.file.now c.batch_side_by_side.new.file
+    (λ now of (found : LookedUp). IsLookedUp w c.args.asked.now c.args.most of.documents found) c.args.file.now c.batch_by_ids.new.file
     c.in_ok-batch.batch (ways.Batch c.in-Some.batch) c.in_ok-batch.ensures.reads
     (λ now of asked some. subst (λ (o : Option GivenBatch). IfSome o (IsWholeBatch w c.args.asked.now of.documents)) c.in-Some.is some)
 
@@ -69,13 +69,13 @@ returns-in_err-found-2-clause-reads g c =
     let e = err_from_is_err_and c.from_residual-in_err-found-2.result c.from_residual-in_err-found-2.ensures.1 in
     rw (e.1, e.2)
     (reads_refused g.D.Disk.history (AreIdsOfAsked c.args.home.now p texts) (λ now of (found : Vec Pairs Global). Found of.documents p c.args.most found)
-    (λ now of (found : LookedUp). IsLookedUp w c.args.asked.now c.args.most of.documents found) c.args.file.now c.selected_one_by_one.new.file
+    (λ now of (found : LookedUp). IsLookedUp w c.args.asked.now c.args.most of.documents found) c.args.file.now c.selected_by_ids-2.new.file
     c.in_err-found-2.field-0.0
     (reads_behind g.D.Disk.history (AreIdsOfAsked c.args.home.now p texts)
     (λ now of (o : Option GivenBatch). IfSome o (IsWholeBatch w c.args.asked.now of.documents))
     (AreIdsOf c.args.home.now.number p texts) (λ now of (found : Vec Pairs Global). Found of.documents p c.args.most found)
     (λ now of (found : Vec Pairs Global). Found of.documents p c.args.most found)
-    c.args.file.now c.batch_side_by_side.new.file c.selected_one_by_one.new.file c.in_ok-batch.batch (Err c.in_err-found-2.field-0.0)
+    c.args.file.now c.batch_by_ids.new.file c.selected_by_ids-2.new.file c.in_ok-batch.batch (Err c.in_err-found-2.field-0.0)
     c.in_ok-batch.ensures.reads c.in_err-found-2.ensures.reads (λ now of asked told. record { other = of; was = asked.ids; right = λ found right. right })))
 
 pub returns-clause-reads : goal.returns-clause-reads
@@ -84,12 +84,12 @@ returns-clause-reads g c =
     let p = matches w.filter.now in
     let texts : List (List ℕ) = texts_of c.args.ids.now in
     reads_made g.D.Disk.history (AreIdsOfAsked c.args.home.now p texts) (λ now of (found : Vec Pairs Global). Found of.documents p c.args.most found)
-    (λ now of (found : LookedUp). IsLookedUp w c.args.asked.now c.args.most of.documents found) c.args.file.now c.selected_one_by_one.new.file
+    (λ now of (found : LookedUp). IsLookedUp w c.args.asked.now c.args.most of.documents found) c.args.file.now c.selected_by_ids-2.new.file
     c.in_ok-found-2.found (ways.Documents c.in_ok-found-2.found)
     (reads_behind g.D.Disk.history (AreIdsOfAsked c.args.home.now p texts)
     (λ now of (o : Option GivenBatch). IfSome o (IsWholeBatch w c.args.asked.now of.documents))
     (AreIdsOf c.args.home.now.number p texts) (λ now of (found : Vec Pairs Global). Found of.documents p c.args.most found)
     (λ now of (found : Vec Pairs Global). Found of.documents p c.args.most found)
-    c.args.file.now c.batch_side_by_side.new.file c.selected_one_by_one.new.file c.in_ok-batch.batch (Ok c.in_ok-found-2.found)
+    c.args.file.now c.batch_by_ids.new.file c.selected_by_ids-2.new.file c.in_ok-batch.batch (Ok c.in_ok-found-2.found)
     c.in_ok-batch.ensures.reads c.in_ok-found-2.ensures.reads (λ now of asked told. record { other = of; was = asked.ids; right = λ found right. right }))
     (λ now of asked right. right)

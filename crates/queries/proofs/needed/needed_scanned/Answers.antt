@@ -1,9 +1,9 @@
 use Rattle.std.proofs.Common.{Ok, Err, Vec, Global}
+use Rattle.std.specs.List.{filter}
 use Rattle.std.proofs.lemmas.Result.{err_from_is_err_and}
 use Rattle.bson.specs.Tree.{Pairs}
 use Rattle.aggregate_model.specs.Taking.{takes}
 use Rattle.pipelines.specs.View.{pipeline_of}
-use Rattle.collections.specs.Folding.{documents_within}
 use Rattle.collections.proofs.ReadingLemmas.{asked_on, asked_refused}
 use Rattle.database_model.specs.Aggregate.{AreEnough}
 use Rattle.asked_documents.specs.Asking.{IsAsked}
@@ -40,8 +40,8 @@ returns-then-walked-clause-reads g c =
     c.args.file.now c.fold_asked.new.file (λ now of done. IsWalked (takes stages) Needs start of.documents done)
     walked (Ok walked.needed) c.in_ok-walked.ensures.reads
     (λ now of asked all.
-    enough_within stages walked.needed.items all.texts of.documents all.same
-    (enough_needed start walked (documents_within all.texts of.documents) all.folded.made c.new.ensures.items c.if-walked.true))
+    enough_within stages walked.needed.items all.chosen of.documents all.same
+    (enough_needed start walked (filter all.chosen of.documents) all.folded.made c.new.ensures.items c.if-walked.true))
 
 pub returns-then-walked-clause-within : goal.returns-then-walked-clause-within
 returns-then-walked-clause-within g c =
@@ -73,8 +73,8 @@ returns-clause-reads g c =
     asked_on g.D.Disk.history (IsAsked c.args.home.now) (λ now of (few : Vec Pairs Global). AreEnough stages few.items of.documents)
     c.args.file.now c.fold_asked.new.file (λ now of done. IsWalked (takes stages) Needs start of.documents done) walked (Ok last) c.in_ok-walked.ensures.reads
     (λ now of asked all.
-    enough_within stages last.items all.texts of.documents all.same
-    (all_needed start walked (documents_within all.texts of.documents) all.folded.made c.new.ensures.items last.items c.if-walked.false
+    enough_within stages last.items all.chosen of.documents all.same
+    (all_needed start walked (filter all.chosen of.documents) all.folded.made c.new.ensures.items last.items c.if-walked.false
     c.in_ok-only_needed.ensures))
 
 pub returns-clause-within : goal.returns-clause-within

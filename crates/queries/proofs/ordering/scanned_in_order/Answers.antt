@@ -1,9 +1,9 @@
 use Rattle.std.proofs.Common.{◌≡◌, Ok, Err, Vec, Global, take, sym, ap, subst, ◌∙◌}
 use Rattle.std.specs.Prelude.{All}
 use Rattle.std.proofs.lemmas.List.Elements.{All-nil}
+use Rattle.std.specs.List.{filter}
 use Rattle.std.proofs.lemmas.Result.{err_from_is_err_and}
 use Rattle.bson.specs.Tree.{Pairs}
-use Rattle.collections.specs.Folding.{documents_within}
 use Rattle.collections.proofs.ReadingLemmas.{asked_on, asked_refused}
 use Rattle.database_model.specs.Find.{matching}
 use Rattle.database_model.specs.Lawful.{IsWithin}
@@ -51,7 +51,7 @@ returns-clause-reads g c =
     (λ now of (found : Vec Pairs Global). found.items ≡ take c.args.most (order c.args.sort.now (matching c.args.filter.now of.documents))) c.args.file.now
     c.fold_asked.new.file (λ now of done. IsWalked (matches c.args.filter.now) Sorts start of.documents done) done (Ok last) c.in_ok-sorted.ensures.reads
     (λ now of asked walked.
-    all_sorted start done (documents_within walked.texts of.documents) last.items c.new.ensures.items first walked.folded.made
+    all_sorted start done (filter walked.chosen of.documents) last.items c.new.ensures.items first walked.folded.made
     ∙ ap (λ ds. take c.args.most (order c.args.sort.now ds)) walked.same)
 
 pub first_spelled-requires : goal.first_spelled-requires

@@ -1,11 +1,11 @@
 use Rattle.std.proofs.Common.{[], ◌++◌, List, Result, Ok, Vec, Global, subst, sym}
 use Rattle.std.proofs.lemmas.List.{append-nil}
+use Rattle.std.specs.List.{filter}
 use Rattle.std.proofs.lemmas.Result.{err_from_is_err_and}
 use Rattle.bson.specs.Tree.{Pairs}
 use Rattle.aggregate.specs.Gathering.{HasGathered}
 use Rattle.aggregate_model.specs.Taking.{takes}
 use Rattle.pipelines.specs.View.{pipeline_of}
-use Rattle.collections.specs.Folding.{documents_within}
 use Rattle.collections.proofs.ReadingLemmas.{asked_on, asked_refused}
 use Rattle.path.specs.declared.refusal.Refusal.{Refusal}
 use Rattle.asked_documents.specs.Asking.{IsAsked}
@@ -39,8 +39,8 @@ returns-clause-reads g c =
     c.args.file.now c.fold_asked.new.file (λ now of done. IsWalked (takes stages) Gathers start of.documents done)
     c.in_ok-walked.walked (Ok given) c.in_ok-walked.ensures.reads
     (λ now of asked all.
-    pipes_within stages given of.documents all.texts all.same
-    (c.into_documents.ensures.runs stages (documents_within all.texts of.documents) (all.folded.made stages [] c.requires)))
+    pipes_within stages given of.documents all.chosen all.same
+    (c.into_documents.ensures.runs stages (filter all.chosen of.documents) (all.folded.made stages [] c.requires)))
 
 pub returns-clause-within : goal.returns-clause-within
 returns-clause-within g c = given_within c.into_documents.result c.into_documents.ensures.within

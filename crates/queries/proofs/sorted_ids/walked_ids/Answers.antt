@@ -1,6 +1,6 @@
 use Rattle.std.proofs.Common.{◌≡◌, Ok, Vec, Global, ℕ, map, take, ap, ◌∙◌}
+use Rattle.std.specs.List.{filter}
 use Rattle.std.proofs.lemmas.Result.{err_from_is_err_and}
-use Rattle.collections.specs.Folding.{documents_within}
 use Rattle.collections.proofs.ReadingLemmas.{asked_on, asked_refused}
 use Rattle.database_model.specs.Find.{matching}
 use Rattle.filter.specs.Matches.{matches}
@@ -36,5 +36,5 @@ returns g c =
     c.args.file.now c.fold_asked.new.file (λ now of done. IsWalked (matches c.args.filter.now) KeepsShort start of.documents done) done (Ok ids)
     c.in_ok-kept.ensures.reads
     (λ now of asked walked.
-    c.in_ok-first_ids.ensures ∙ all_shortened start done (documents_within walked.texts of.documents) c.new.ensures.items walked.folded.made
+    c.in_ok-first_ids.ensures ∙ all_shortened start done (filter walked.chosen of.documents) c.new.ensures.items walked.folded.made
     ∙ ap (λ ds. map id_text_of (take c.args.most (order c.args.sort.now ds))) walked.same)

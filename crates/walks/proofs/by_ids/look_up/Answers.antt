@@ -2,7 +2,7 @@ use Rattle.std.proofs.Common.{◌≡◌, ◌++◌, [], List, Option}
 use Rattle.std.specs.List.{filter}
 use Rattle.std.proofs.lemmas.Result.{err_from_is_err_and}
 use Rattle.bson.specs.Tree.{Pairs}
-use Rattle.collections.specs.Reading.{IsPlaceOf, stored_at}
+use Rattle.collections.specs.Lookups.{IsPlaceOf, stored_at}
 use Rattle.planner.specs.IdLaws.{with_found}
 use Rattle.asked_documents.proofs.ReadingLemmas.{reads_refused}
 use Rattle.walks.proofs.by_ids.look_up.Goals as goal

@@ -1,7 +1,7 @@
 use Rattle.std.proofs.Common.{◌≡◌, Option, Ok, sym, ap, subst, ◌∙◌}
 use Rattle.std.proofs.lemmas.Result.{err_from_is_err_and}
 use Rattle.bson.specs.Tree.{Pairs}
-use Rattle.collections.specs.Reading.{IsPlaceOf, ReadsOf, stored_at}
+use Rattle.collections.specs.Lookups.{IsPlaceOf, ReadsOf, stored_at}
 use Rattle.walks.specs.Within.{is_within}
 use Rattle.walks.proofs.WithinLemmas.{over_refused}
 use Rattle.asked_documents.proofs.ReadingLemmas.{reads_memory}

@@ -1,7 +1,7 @@
 use Rattle.std.proofs.Common.{◌≡◌, Option, Ok, Some, sym, subst}
 use Rattle.std.proofs.lemmas.Result.{err_from_is_err_and}
 use Rattle.bson.specs.Tree.{Pairs}
-use Rattle.collections.specs.Reading.{IsPlaceOf, stored_at}
+use Rattle.collections.specs.Lookups.{IsPlaceOf, stored_at}
 use Rattle.collections.specs.Versions.{ReadsVersion}
 use Rattle.path.specs.declared.refusal.Refusal.TheVariants as refusals
 use Rattle.walks.proofs.ListedLemmas.{never_missing, offered, unread}

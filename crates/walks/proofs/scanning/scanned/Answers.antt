@@ -2,7 +2,6 @@ use Rattle.std.proofs.Common.{◌≡◌, Ok, Vec, Global, take, ap, ◌∙◌}
 use Rattle.std.specs.List.{filter}
 use Rattle.std.proofs.lemmas.Result.{err_from_is_err_and}
 use Rattle.bson.specs.Tree.{Pairs}
-use Rattle.collections.specs.Folding.{documents_within}
 use Rattle.collections.proofs.ReadingLemmas.{asked_on, asked_refused}
 use Rattle.asked_documents.specs.Asking.{IsAsked}
 use Rattle.walks.specs.Scanning.{Selected}
@@ -36,7 +35,7 @@ returns-clause-reads g c =
     (λ now of (found : Vec Pairs Global). found.items ≡ take c.args.most (filter p of.documents)) c.args.file.now c.fold_asked.new.file
     (λ now of done. IsWalked p (Selected g.S.DocumentPredicate.selects) start of.documents done) done (Ok done.found) c.in_ok-fold_asked.ensures.reads
     (λ now of asked walked.
-    lent_selected g.S.DocumentPredicate.selects start done (documents_within walked.texts of.documents) walked.folded.made c.new.ensures.items
+    lent_selected g.S.DocumentPredicate.selects start done (filter walked.chosen of.documents) walked.folded.made c.new.ensures.items
     ∙ ap (take c.args.most) walked.same)
 
 pub returns-clause-within : goal.returns-clause-within

@@ -1,5 +1,5 @@
 use Rattle.std.proofs.Common.{◌∙◌}
-use Rattle.collections.specs.Reading.{AreBytesAt, IsInTree, IsPlaceOf, IsValueAt}
+use Rattle.collections.specs.Lookups.{AreBytesAt, IsInTree, IsPlaceOf, IsValueAt}
 use Rattle.collections.proofs.BelowLemmas.{below_asked}
 use Rattle.collections.proofs.FoundLemmas.{bytes_there}
 use Rattle.collections.proofs.collections.Collections.bytes_from.Goals as goal

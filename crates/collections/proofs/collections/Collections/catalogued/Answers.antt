@@ -4,7 +4,7 @@ use Rattle.std.specs.Option.{option_map}
 use Rattle.entry_model.specs.State.{find_collection}
 use Rattle.entries.specs.declared.catalogue_reading.Catalogued.{Catalogued}
 use Rattle.collections.specs.Calls.{Reads}
-use Rattle.collections.specs.Reading.{catalogued_in, catalogued_of}
+use Rattle.collections.specs.Lookups.{catalogued_in, catalogued_of}
 use Rattle.collections.specs.Remembering.{TellsAgain}
 use Rattle.collections.specs.State.{State}
 use Rattle.collections.proofs.RememberingLemmas.{reads_again}

@@ -1,5 +1,5 @@
 use Rattle.std.proofs.Common.{◌≡◌, ap}
-use Rattle.collections.specs.Reading.{IsPlaceOf, stored_at}
+use Rattle.collections.specs.Lookups.{IsPlaceOf, stored_at}
 use Rattle.collections.specs.State.{State}
 use Rattle.collections.proofs.BelowLemmas.{asks_turn}
 use Rattle.collections.proofs.collections.Collections.document.Goals as goal

@@ -1,6 +1,6 @@
 use Rattle.std.proofs.Common.{subst, ◌≡◌, Ok, Err, Some, None}
 use Rattle.std.proofs.lemmas.Result.{err_from_is_err_and}
-use Rattle.collections.specs.Reading.{AreBytesAt, IsPlaceOf, stored_at}
+use Rattle.collections.specs.Lookups.{AreBytesAt, IsPlaceOf, stored_at}
 use Rattle.collections.proofs.BelowLemmas.{below_on, below_refused}
 use Rattle.collections.proofs.FoundLemmas.{none_stored, one_stored}
 use Rattle.collections.proofs.collections.Collections.document_from.Goals as goal

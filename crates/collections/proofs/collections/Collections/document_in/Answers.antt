@@ -1,5 +1,5 @@
 use Rattle.std.proofs.Common.{◌≡◌, refl}
-use Rattle.collections.specs.Reading.{IsPlaceOf, stored_at}
+use Rattle.collections.specs.Lookups.{IsPlaceOf, stored_at}
 use Rattle.collections.proofs.BelowLemmas.{asks_version}
 use Rattle.collections.proofs.collections.Collections.document_in.Goals as goal
 

@@ -4,7 +4,7 @@ use Rattle.btree.specs.declared.scanning.Batch.{Batch}
 use Rattle.path.specs.declared.refusal.Refusal.{Refusal}
 use Rattle.entry_model.specs.State.{Collection}
 use Rattle.collections.specs.Below.{IsNothing, ReadsBelow}
-use Rattle.collections.specs.Reading.{IsBatchOf, IsInTree}
+use Rattle.collections.specs.Lookups.{IsBatchOf, IsInTree}
 use Rattle.collections.specs.State.{State}
 use Rattle.collections.proofs.BelowLemmas.{below_there}
 use Rattle.collections.proofs.RememberingLemmas.{kept_reading}

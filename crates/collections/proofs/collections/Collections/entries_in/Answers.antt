@@ -1,5 +1,5 @@
 use Rattle.std.proofs.Common.{ap}
-use Rattle.collections.specs.Reading.{IsBatchOf, IsInTree}
+use Rattle.collections.specs.Lookups.{IsBatchOf, IsInTree}
 use Rattle.collections.specs.State.{State}
 use Rattle.collections.proofs.BelowLemmas.{reads_turn}
 use Rattle.collections.proofs.collections.Collections.entries_in.Goals as goal

@@ -6,7 +6,7 @@ use Rattle.btree.specs.declared.folding.Bounds.{Bounds}
 use Rattle.entry_model.specs.StateEntries.{key_under}
 use Rattle.collections.specs.Below.{IsNothing}
 use Rattle.collections.specs.Folding.{Lends, documents_within, end_under}
-use Rattle.collections.specs.Reading.{IsInTree, IsNumbered}
+use Rattle.collections.specs.Lookups.{IsInTree, IsNumbered}
 use Rattle.collections.specs.declared.folding.Lending.{Lending}
 use Rattle.collections.proofs.BelowLemmas.{below_refused}
 use Rattle.collections.proofs.FoldingLemmas.{folded}
@@ -20,7 +20,7 @@ returns-in_err-lend_from-clause-reads g c =
     let e = err_from_is_err_and c.from_residual-in_err-lend_from.result c.from_residual-in_err-lend_from.ensures.1 in
     rw (e.1, e.2)
     (below_refused g.D.Disk.history c.args.root IsNothing (λ now of. IsNumbered now of c.args.number)
-    (λ now asked. IsInTree (λ entries (u : Unit {0}). Lends makes start (between bounds entries) c.lend_from.new.lending) now)
+    (λ now asked. IsInTree (λ entries (u : Unit {0}). Lends makes start (between bounds entries) c.lend_from.new.fold) now)
     (λ now of done. makes c.args.fold (documents_within c.args.texts of.documents) done)
     c.args.self.now c.lend_from.new.self c.in_err-lend_from.field-0.0 (λ now of numbered. (tt, tt)) c.in_err-lend_from.ensures.reads)
 
@@ -31,8 +31,8 @@ returns-in-None-clause-reads g c =
     let from : bounds.from.now ≡ key_under c.args.number 0 c.args.texts.from.now = c.deref.ensures.value ∙ c.in_ok-from.ensures in
     let to : option_map (λ b. b.now) bounds.to ≡ Some (end_under c.args.number (option_map (λ b. b.now) c.args.texts.to)) =
     ap Some (c.deref-2.ensures.value ∙ c.in_ok-to.ensures) in
-    folded g.D.Disk.history g.F.DocumentFold.makes start c.lend_from.new.lending bounds c.args.texts c.args.number c.args.root c.args.self.now
-    c.lend_from.new.self from to c.in_ok-lend_from.ensures.reads (Ok c.lend_from.new.lending.fold) (c.in-None.is, refl)
+    folded g.D.Disk.history g.F.DocumentFold.makes start c.lend_from.new.fold bounds c.args.texts c.args.number c.args.root c.args.self.now
+    c.lend_from.new.self from to c.in_ok-lend_from.ensures.reads (Ok c.lend_from.new.fold.fold) (c.in-None.is, refl)
 
 pub returns-clause-reads : goal.returns-clause-reads
 returns-clause-reads g c =
@@ -41,5 +41,5 @@ returns-clause-reads g c =
     let from : bounds.from.now ≡ key_under c.args.number 0 c.args.texts.from.now = c.deref.ensures.value ∙ c.in_ok-from.ensures in
     let to : option_map (λ b. b.now) bounds.to ≡ Some (end_under c.args.number (option_map (λ b. b.now) c.args.texts.to)) =
     ap Some (c.deref-2.ensures.value ∙ c.in_ok-to.ensures) in
-    folded g.D.Disk.history g.F.DocumentFold.makes start c.lend_from.new.lending bounds c.args.texts c.args.number c.args.root c.args.self.now
+    folded g.D.Disk.history g.F.DocumentFold.makes start c.lend_from.new.fold bounds c.args.texts c.args.number c.args.root c.args.self.now
     c.lend_from.new.self from to c.in_ok-lend_from.ensures.reads (Err c.in-Some.refusal) c.in-Some.is

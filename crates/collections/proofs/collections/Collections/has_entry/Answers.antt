@@ -1,6 +1,6 @@
 use Rattle.std.proofs.lemmas.Result.{err_from_is_err_and}
 use Rattle.collections.specs.IndexChecks.{has_entry}
-use Rattle.collections.specs.Reading.{IsValueAt}
+use Rattle.collections.specs.Lookups.{IsValueAt}
 use Rattle.collections.proofs.TreeReadLemmas.{IsTest, tree_refused}
 use Rattle.collections.proofs.collections.Collections.has_entry.Goals as goal
 

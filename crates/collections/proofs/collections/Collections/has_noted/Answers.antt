@@ -4,7 +4,7 @@ use Rattle.std.specs.Option.{option_map}
 use Rattle.entries.specs.EditList.{edit_at}
 use Rattle.std.proofs.lemmas.Result.{err_from_is_err_and}
 use Rattle.collections.specs.OtherKeys.{TellsDocument}
-use Rattle.collections.specs.Reading.{IsInTree, IsValueAt}
+use Rattle.collections.specs.Lookups.{IsInTree, IsValueAt}
 use Rattle.collections.proofs.OtherKeyLemmas.{tells_noted}
 use Rattle.collections.proofs.ReadingLemmas.{reads_on, reads_refused}
 use Rattle.collections.proofs.collections.Collections.has_noted.Goals as goal

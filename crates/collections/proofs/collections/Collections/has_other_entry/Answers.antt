@@ -5,7 +5,7 @@ use Rattle.std.proofs.lemmas.Result.{err_from_is_err_and}
 use Rattle.btree.specs.Scan.{entry_in}
 use Rattle.btree.specs.declared.scanning.Range.{Range}
 use Rattle.entries.specs.OtherKeys.{IsEndOf, has_other_key, is_another}
-use Rattle.collections.specs.Reading.{IsBatchOf}
+use Rattle.collections.specs.Lookups.{IsBatchOf}
 use Rattle.collections.proofs.TreeReadLemmas.{IsTest, others_told, tree_on, tree_refused}
 use Rattle.collections.proofs.collections.Collections.has_other_entry.Goals as goal
 

@@ -7,7 +7,7 @@ use Rattle.btree.specs.declared.scanning.Range.{Range}
 use Rattle.entries.specs.OtherKeys.{IsEndOf, leaves_another, puts_another}
 use Rattle.path.specs.declared.refusal.Refusal.TheVariants as refusals
 use Rattle.collections.specs.OtherKeys.{TellsOtherKey}
-use Rattle.collections.specs.Reading.{IsBatchOf, IsInTree}
+use Rattle.collections.specs.Lookups.{IsBatchOf, IsInTree}
 use Rattle.collections.proofs.OtherKeyLemmas.{not_more, tells_other}
 use Rattle.collections.proofs.ReadingLemmas.{reads_on, reads_refused}
 use Rattle.collections.proofs.collections.Collections.has_other_key.Goals as goal

@@ -4,8 +4,7 @@ use Rattle.tree_model.specs.Keys.{Entry}
 use Rattle.path.specs.declared.refusal.Refusal.{Refusal}
 use Rattle.entry_model.specs.State.{Collection}
 use Rattle.collections.specs.Below.{IsNothing, ReadsBelow}
-use Rattle.collections.specs.Folding.{Lends}
-use Rattle.collections.specs.Reading.{IsInTree}
+use Rattle.collections.specs.Lookups.{IsInTree}
 use Rattle.collections.specs.State.{State}
 use Rattle.collections.proofs.BelowLemmas.{below_there}
 use Rattle.collections.proofs.RememberingLemmas.{kept_reading}
@@ -29,9 +28,9 @@ returns-clause-reads g c =
     let pager = c.lend_below.new.pager in
     let old : State D = record { pager = i.pager; root = i.root } in
     let new : State D = record { pager = pager; root = i.root } in
-    let start = c.args.lending.now in
-    let after = c.lend_below.new.lending in
-    let lent : List Entry → Unit {0} → Type 0 = λ entries u. Lends g.F.DocumentFold.makes start (between c.args.bounds entries) after in
+    let start = c.args.fold.now in
+    let after = c.lend_below.new.fold in
+    let lent : List Entry → Unit {0} → Type 0 = λ entries u. g.F.Fold.makes start (between c.args.bounds entries) after in
     let right : List Collection → Unit {0} → Unit {0} → Type 0 = λ now asked. IsInTree lent now in
     elim c.match-lend_below.branch [
       | in-Ok w ↦ subst (λ (r : Result (Unit {0}) Refusal). ReadsBelow history root IsNothing right r c.args.self.now new) (sym w.result-is)

@@ -4,7 +4,7 @@ use Rattle.std.proofs.lemmas.Result.{err_from_is_err_and}
 use Rattle.entry_model.specs.State.{find_collection}
 use Rattle.collections.specs.Calls.{Reads}
 use Rattle.collections.specs.State.{State}
-use Rattle.collections.specs.Reading.{IsInTree, IsValueAt, catalogued_in, catalogued_of}
+use Rattle.collections.specs.Lookups.{IsInTree, IsValueAt, catalogued_in, catalogued_of}
 use Rattle.collections.specs.Remembering.{IsRemembered}
 use Rattle.collections.proofs.BelowLemmas.{reads_turn}
 use Rattle.collections.proofs.FoundLemmas.{none_told, one_told}

@@ -2,7 +2,7 @@ use Rattle.std.proofs.Common.{◌≡◌, map, Err, ◌∙◌, ap, refl, subst, s
 use Rattle.std.proofs.lemmas.Result.{err_from_is_err_and}
 use Rattle.btree.specs.declared.scanning.Range.{Range}
 use Rattle.path.specs.declared.refusal.Refusal.TheVariants as refusals
-use Rattle.collections.specs.Reading.{AreEach, IsBatchOf, IsInTree, IsOfCollection, name_in, name_of}
+use Rattle.collections.specs.Lookups.{AreEach, IsBatchOf, IsInTree, IsOfCollection, name_in, name_of}
 use Rattle.collections.proofs.FoundLemmas.{named, not_more}
 use Rattle.collections.proofs.ReadingLemmas.{reads_on, reads_refused}
 use Rattle.collections.proofs.collections.Collections.names.Goals as goal

@@ -7,7 +7,7 @@ use Rattle.btree.specs.declared.scanning.Entry.{Entry}
 use Rattle.btree.specs.declared.scanning.Range.{Range}
 use Rattle.entry_model.specs.StateEntries.{key_under}
 use Rattle.path.specs.declared.refusal.Refusal.TheVariants as refusals
-use Rattle.collections.specs.Reading.{IsBatchOf, IsInTree}
+use Rattle.collections.specs.Lookups.{IsBatchOf, IsInTree}
 use Rattle.collections.specs.Walk.{HasNext, IsWalk}
 use Rattle.collections.specs.declared.walk.Walk.{Walk}
 use Rattle.collections.proofs.ReadingLemmas.{asks_refused}

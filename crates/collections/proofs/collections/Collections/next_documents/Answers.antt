@@ -3,7 +3,7 @@ use Rattle.std.specs.Global.{Global}
 use Rattle.std.proofs.lemmas.Result.{err_from_is_err_and}
 use Rattle.bson.specs.Tree.{Pairs}
 use Rattle.btree.specs.declared.scanning.Entry.{Entry}
-use Rattle.collections.specs.Reading.{AreEach, IsOfDocument}
+use Rattle.collections.specs.Lookups.{AreEach, IsOfDocument}
 use Rattle.collections.specs.Walk.{HasNext, IsWalk, StepsOn}
 use Rattle.collections.proofs.ReadingLemmas.{asked_refused}
 use Rattle.collections.proofs.WalkLemmas.{ends_made, made_of}

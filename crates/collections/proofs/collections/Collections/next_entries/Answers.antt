@@ -4,7 +4,7 @@ use Rattle.btree.specs.declared.scanning.Batch.{Batch}
 use Rattle.btree.specs.declared.scanning.Range.{Range}
 use Rattle.path.specs.declared.refusal.Refusal.{Refusal}
 use Rattle.collections.specs.Entries.{AreNextEntries, ReadsTree}
-use Rattle.collections.specs.Reading.{IsBatchOf}
+use Rattle.collections.specs.Lookups.{IsBatchOf}
 use Rattle.collections.specs.State.{State}
 use Rattle.collections.proofs.EntryLemmas.{next_entries_are, tree_there}
 use Rattle.collections.proofs.RememberingLemmas.{kept_reading}

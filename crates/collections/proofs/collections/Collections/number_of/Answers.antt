@@ -4,7 +4,7 @@ use Rattle.std.proofs.lemmas.Result.{err_from_is_err_and}
 use Rattle.entry_model.specs.State.{find_collection}
 use Rattle.entries.specs.declared.catalogue_reading.Catalogued.{Catalogued}
 use Rattle.std.specs.Prelude.{Option}
-use Rattle.collections.specs.Reading.{catalogued_in, catalogued_of}
+use Rattle.collections.specs.Lookups.{catalogued_in, catalogued_of}
 use Rattle.collections.proofs.FoundLemmas.{none_numbered, one_numbered}
 use Rattle.collections.proofs.ReadingLemmas.{reads_on, reads_refused}
 use Rattle.collections.proofs.collections.Collections.number_of.Goals as goal

@@ -5,7 +5,7 @@ use Rattle.path.specs.declared.refusal.Refusal.{Refusal}
 use Rattle.entry_model.specs.State.{Collection}
 use Rattle.collections.specs.Below.{IsNothing, ReadsBelow}
 use Rattle.collections.specs.ReadTexts.{AreTextsRead}
-use Rattle.collections.specs.Reading.{IsInTree}
+use Rattle.collections.specs.Lookups.{IsInTree}
 use Rattle.collections.specs.State.{State}
 use Rattle.collections.proofs.BelowLemmas.{below_there}
 use Rattle.collections.proofs.RememberingLemmas.{kept_reading}

@@ -9,7 +9,7 @@ use Rattle.index.specs.View.{texts_of}
 use Rattle.collections.specs.Below.{IsNothing}
 use Rattle.collections.specs.IndexTexts.{AreNextTexts, IsNumberedIndex, next_behind}
 use Rattle.collections.specs.ReadTexts.{AreTextsRead}
-use Rattle.collections.specs.Reading.{IsInTree}
+use Rattle.collections.specs.Lookups.{IsInTree}
 use Rattle.collections.specs.declared.index_texts.NextTexts.{NextTexts}
 use Rattle.collections.specs.declared.index_texts.TextReading.{TextReading}
 use Rattle.collections.proofs.BelowLemmas.{below_on, below_refused}

@@ -3,7 +3,7 @@ use Rattle.std.specs.Prelude.{Result}
 use Rattle.btree.specs.declared.scanning.Batch.{Batch}
 use Rattle.path.specs.declared.refusal.Refusal.{Refusal}
 use Rattle.collections.specs.Entries.{ReadsTree}
-use Rattle.collections.specs.Reading.{IsBatchOf}
+use Rattle.collections.specs.Lookups.{IsBatchOf}
 use Rattle.collections.specs.State.{State}
 use Rattle.collections.proofs.EntryLemmas.{tree_there}
 use Rattle.collections.proofs.RememberingLemmas.{kept_reading}

@@ -3,7 +3,7 @@ use Rattle.std.specs.Prelude.{Result, Option, ℕ}
 use Rattle.std.specs.Global.{Vec}
 use Rattle.path.specs.declared.refusal.Refusal.{Refusal}
 use Rattle.collections.specs.Entries.{ReadsTree}
-use Rattle.collections.specs.Reading.{IsValueAt}
+use Rattle.collections.specs.Lookups.{IsValueAt}
 use Rattle.collections.specs.State.{State}
 use Rattle.collections.proofs.EntryLemmas.{tree_there}
 use Rattle.collections.proofs.RememberingLemmas.{kept_reading}

@@ -1,5 +1,5 @@
 use Rattle.std.proofs.Common.{ap}
-use Rattle.collections.specs.Reading.{IsInTree, IsValueAt}
+use Rattle.collections.specs.Lookups.{IsInTree, IsValueAt}
 use Rattle.collections.specs.State.{State}
 use Rattle.collections.proofs.BelowLemmas.{reads_turn}
 use Rattle.collections.proofs.collections.Collections.value_at.Goals as goal

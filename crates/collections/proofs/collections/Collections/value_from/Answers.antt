@@ -7,7 +7,7 @@ use Rattle.tree_model.proofs.StoreLemmas.{same_itself}
 use Rattle.path.specs.declared.refusal.Refusal.{Refusal}
 use Rattle.entry_model.specs.State.{Collection}
 use Rattle.collections.specs.Below.{IsNothing, ReadsBelow}
-use Rattle.collections.specs.Reading.{IsInTree, IsValueAt}
+use Rattle.collections.specs.Lookups.{IsInTree, IsValueAt}
 use Rattle.collections.specs.State.{State}
 use Rattle.collections.specs.View.{disk_history, pages_of}
 use Rattle.collections.proofs.BelowLemmas.{below_there}

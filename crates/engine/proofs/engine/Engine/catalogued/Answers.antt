@@ -1,6 +1,6 @@
 use Rattle.std.proofs.Common.{◌≡◌, refl}
 use Rattle.std.specs.Option.{option_map}
-use Rattle.collections.specs.Reading.{catalogued_in, catalogued_of}
+use Rattle.collections.specs.Lookups.{catalogued_in, catalogued_of}
 use Rattle.entry_model.specs.State.{find_collection}
 use Rattle.engine.proofs.LookingLemmas.{looks_so}
 use Rattle.engine.proofs.engine.Engine.catalogued.Goals as goal

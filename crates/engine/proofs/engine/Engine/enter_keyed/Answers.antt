@@ -8,7 +8,7 @@ use Rattle.entry_model.specs.Entering.{Enters}
 use Rattle.index.specs.IndexKeys.{noted}
 use Rattle.index.specs.KeyTexts.{keys_in_all}
 use Rattle.entries.specs.declared.catalogue_reading.Catalogued.{Catalogued}
-use Rattle.collections.specs.Reading.{IsWithinLimits}
+use Rattle.collections.specs.Lookups.{IsWithinLimits}
 use Rattle.path.specs.declared.refusal.Refusal.{Refusal}
 use Rattle.engine.proofs.EnteringSteps.{enter_done, enter_old_unkeyed, enter_refused, enter_undecided, is_new_where_none}
 use Rattle.engine.proofs.engine.Engine.enter_keyed.Goals as goal

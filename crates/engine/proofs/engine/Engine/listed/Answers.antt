@@ -2,7 +2,7 @@ use Rattle.std.proofs.Common.{◌≡◌, List, Vec, Global, true, false, map, re
 use Rattle.std.specs.Prelude.{All}
 use Rattle.std.proofs.lemmas.Result.{err_from_is_err_and}
 use Rattle.bson.specs.Tree.{Pairs}
-use Rattle.collections.specs.Reading.{name_of}
+use Rattle.collections.specs.Lookups.{name_of}
 use Rattle.collections.specs.declared.lookups.Name.{Name}
 use Rattle.database_model.specs.Lawful.{IsWithin}
 use Rattle.database_model.specs.ListCollections.{listed, names_behind, names_in}

@@ -1,7 +1,7 @@
 use Rattle.std.proofs.Common.{◌≡◌, ℕ, Vec, Global, map, take, refl, subst}
 use Rattle.index.specs.View.{texts_of}
 use Rattle.walks.specs.Listed.{id_text_of}
-use Rattle.collections.specs.Reading.{ReadsOf}
+use Rattle.collections.specs.Lookups.{ReadsOf}
 use Rattle.command_model.specs.Find.{Query}
 use Rattle.database_model.specs.Find.{matching}
 use Rattle.sort.specs.Sort.{order}
