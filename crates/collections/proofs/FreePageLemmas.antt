@@ -93,7 +93,7 @@ module _ {D : Type 0} (history : D → History) (p : PagerState D) (live : List 
       ]
 
   all : IsPartition root.pages live parts
-  all = elim (cases_eq root.free_list 0) [ | inl none ↦ without_list none | inr some ↦ has.all some ]
+  all = elim (cases_eq root.free_list 0) [ inl none ↦ without_list none | inr some ↦ has.all some ]
 
   named_in : (other : ℕ → List ℕ) → ((j : ℕ) → IsKept (reached_by live parts) j → other j ≡ image j) → NamesFreePages other
   named_in other same =
