@@ -34,13 +34,21 @@ fn terminal(rt: &HostRuntime) -> Terminal {
     }
 }
 
-/// Folders in the places of standard streams that were closed before the program began. The system gives a file that is opened the least
-/// number that is free, so the database would be read and written as that stream. Of a folder both fail.
+/// A folder in the place of a standard stream that was closed before the program began. The system gives a file that is opened the least
+/// number that is free, so the database would be read or written as that stream. Of a folder both fail.
+fn in_place_of(rt: &HostRuntime, stream: &str) -> Option<File> {
+    if fs::metadata(rt, stream).is_ok() {
+        return None;
+    }
+    File::open(rt, "/").ok()
+}
+
+/// The same for each of them, in the order of their numbers.
 fn closed_streams(rt: &HostRuntime) -> [Option<File>; 3] {
     [
-        File::open(rt, "/").ok(),
-        File::open(rt, "/").ok(),
-        File::open(rt, "/").ok(),
+        in_place_of(rt, "/dev/stdin"),
+        in_place_of(rt, "/dev/stdout"),
+        in_place_of(rt, "/dev/stderr"),
     ]
 }
 
