@@ -111,6 +111,15 @@ ENDS = [
     (b"A" * 1_024, b"", 1, b"", b"docpage: NotADatabase\n"),
 ]
 
+# Which standard stream is closed before the program begins, what its input is else, and what it is asked.
+CLOSED = [
+    (0, b"", ["exec", "closed.docpage"]),
+    (1, PING, ["exec", "closed.docpage"]),
+    (1, b"", ["ask", "closed.docpage", '{"ping": 1}']),
+    (1, b"", ["import", "closed.docpage", "test.d"]),
+    (1, b"", ["listen", "closed.docpage", "--port", "0"]),
+]
+
 
 def ended(words, given=b"", **streams):
     """The status of docpage with these words over this input, what it printed, and what it said of faults."""
@@ -232,9 +241,20 @@ def streams_that_fail():
     os.close(gone)
 
 
+def streams_that_are_closed():
+    """The system gives a file that is opened the number of one: none is read or written as that stream."""
+    told(["ask", "closed.docpage", '{"insert": "c", "documents": [{"_id": 1}]}'])
+    held = bytes_in("closed.docpage")
+    for closed, given, words in CLOSED:
+        how = {} if closed == 0 else {"input": given}
+        ran = subprocess.run([PROGRAM, *words], stderr=subprocess.PIPE, timeout=PATIENCE, preexec_fn=lambda: os.close(closed), **how)
+        wanted((ran.returncode, ran.stderr), (1, b"docpage: Device\n"), f"{words[0]} without stream {closed}")
+        wanted(bytes_in("closed.docpage"), held, f"the file of {words[0]} without stream {closed}")
+
+
 with tempfile.TemporaryDirectory(prefix="words.") as place:
     os.chdir(place)
     for case in (wrong_words, no_file, help_is_printed, a_port_in_use, one_file, many_documents, documents_as_bytes, files_that_are_none,
-                 a_file_in_use, the_end_of_the_input, streams_that_fail):
+                 a_file_in_use, the_end_of_the_input, streams_that_fail, streams_that_are_closed):
         case()
         print(f"{case.__name__}: ok", flush=True)

@@ -21,6 +21,7 @@ use Rattle.collections.specs.Committing.{CommitsCollections, FindsNoRoom}
 use Rattle.collections.specs.Holding.{HoldsState}
 use Rattle.collections.specs.Standing.{HasState, IsTurnOf}
 use Rattle.collections.specs.View.{disk_history, is_stopped, pages_of}
+use Rattle.collections.proofs.FreePageLemmas.{names_free_pages}
 use Rattle.collections.proofs.StandingLemmas.{begins, rests_at, state_stays}
 
 -- a count that stops at the greatest number
@@ -127,6 +128,9 @@ module _ {D : Type 0} (history : D → History) (old : State D) (pager : PagerSt
       begun = λ still k.
           let t = turn (Ok tt) commits moves running start now has k in
           begins history new t.pages t.after now (sym commits.tree) k (moved (Ok tt) commits moves running start now has k).begun t.spells_now t.now_state;
+      listed = λ k image is.
+          let t = turn (Ok tt) commits moves running start now has k in
+          names_free_pages history pager t.pages t.after (moved (Ok tt) commits moves running start now has k).begun commits.listed k image is;
     };
   }
 
@@ -151,6 +155,7 @@ module _ {D : Type 0} (history : D → History) (old : State D) (pager : PagerSt
           ((moved (Err fault) commits moves running start now has k).any_moment k image left);
       acknowledged = tt;
       begun = tt;
+      listed = tt;
     };
   }
 

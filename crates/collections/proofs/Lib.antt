@@ -9,6 +9,7 @@ pub mod CountLemmas
 pub mod EntryLemmas
 pub mod FoldingLemmas
 pub mod FoundLemmas
+pub mod FreePageLemmas
 pub mod IndexTextLemmas
 pub mod LawLemmas
 pub mod MarkLemmas

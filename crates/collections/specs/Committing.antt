@@ -8,6 +8,7 @@ use Rattle.roots.specs.declared.store.CommitFault.{CommitFault}
 use Rattle.roots.specs.declared.store.CommitFault.TheVariants as faults
 use Rattle.entry_model.specs.State.{Collection}
 use Rattle.collections.specs.State.{State}
+use Rattle.collections.specs.FreePages.{NamesFreePages}
 use Rattle.collections.specs.Holding.{HoldsState}
 use Rattle.collections.specs.Marks.{IsUntouched}
 use Rattle.collections.specs.Standing.{HasState}
@@ -23,6 +24,8 @@ pub record Moves {D : Type 0} (history : D → History) (start now : List Collec
   pub acknowledged : OnOk result
       (CrashLeaves (disk_history history new) (λ image. HoldsState image now))
   pub begun : OnOk result (HasState history new now now)
+  -- and what a crash leaves then names each free page
+  pub listed : OnOk result (CrashLeaves (disk_history history new) NamesFreePages)
 
 -- No page was free for the file's list of free pages, which is counted, and nothing else changed.
 pub record FindsNoPage {D : Type 0} (history : D → History) (old new : State D) : Type 0 where

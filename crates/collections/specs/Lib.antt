@@ -5,6 +5,7 @@ pub mod Committing
 pub mod Counting
 pub mod Entries
 pub mod Folding
+pub mod FreePages
 pub mod Holding
 pub mod IndexChecks
 pub mod IndexTexts

@@ -14,7 +14,7 @@ use std::rt::{Clock, Files};
 ///
 /// `serve FILE --port P --connections N --turns T` is `serve_on` over a port of 127.0.0.1. `listen FILE --port P
 /// [--idle-seconds S]` answers every connection of the port that comes, 64 at a time, and ends where the server has stopped.
-/// Both print `listening on 127.0.0.1:P` once the port can be connected to; port 0 is any that is free.
+/// Both print `listening on 127.0.0.1:P` once the port can be connected to; for `listen`, port 0 is any that is free.
 ///
 /// The others are those of `run_task` (crate `program`). Where the file is missing it is made, but for `export`, `check` and `dump`, which only read. Words that ask for
 /// help get it on `output`, and are no program.

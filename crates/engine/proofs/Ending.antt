@@ -105,6 +105,7 @@ module _ {D : Type 0} (history : D → History) (old new : Engine D) (h : IsSoun
       kept = λ run e. tt;
       acknowledged = λ run. subst (λ (cs : List Collection). CrashLeaves (disk_history history old) (λ image. HoldsCollections image cs)) idle
           (holds_start run);
+      listed = λ run changed. not_both (has_changes old) changed clean;
       device = λ e k. absurd cc;
       idle = λ e. refl;
       quiet = λ e. (refl, refl);
@@ -204,6 +205,7 @@ module _ {D : Type 0} (history : D → History) (old new : Engine D) (h : IsSoun
           any_moment = λ run k image left. inl (before run k image left);
           kept = λ run e. before run;
           acknowledged = λ run. tt;
+          listed = λ run changed. tt;
           device = λ e k. absurd (not_device e);
           idle = λ e. disk_same;
           quiet = λ e. not_both (has_changes old) moved e;
@@ -265,6 +267,7 @@ module _ {D : Type 0} (history : D → History) (old new : Engine D) (h : IsSoun
           any_moment = at_any_moment (Ok tt) saved;
           kept = λ run e. tt;
           acknowledged = λ run k image left. record { lawful = h.lawful; file = moves.acknowledged k image left };
+          listed = λ run changed k image left. moves.listed k image left;
           device = λ e k. absurd cc;
           idle = λ e. not_both (is_stopped old) e saved.running.0;
           quiet = λ e. not_both (has_changes old) moved e;
@@ -291,6 +294,7 @@ module _ {D : Type 0} (history : D → History) (old new : Engine D) (h : IsSoun
           any_moment = at_any_moment (Err faults.Device) saved;
           kept = λ run e. absurd (e refl);
           acknowledged = λ run. tt;
+          listed = λ run changed. tt;
           device = λ e. saved.device refl;
           idle = λ e. ap (λ (f : State D). views.disk_history history f) (saved.idle e);
           quiet = λ e. not_both (has_changes old) moved e;

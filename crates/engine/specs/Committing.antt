@@ -6,6 +6,7 @@ use Rattle.page.specs.Crash.{ExtendsHistory, LeavesOnly, CrashLeaves}
 use Rattle.tree_model.specs.Store.{HasNoPage}
 use Rattle.roots.specs.declared.store.CommitFault.{CommitFault}
 use Rattle.roots.specs.declared.store.CommitFault.TheVariants as faults
+use Rattle.collections.specs.FreePages.{NamesFreePages}
 use Rattle.collections.specs.View.{pages_of}
 use Rattle.database_model.specs.World.{are_untouched, after_commit, after_undo}
 use Rattle.engine.specs.View.{world, turn_start}
@@ -57,6 +58,9 @@ pub record CommitsTurn {D : Type 0} (history : D → History) (result : Result (
       → OnOk result
       (CrashLeaves (disk_history history new)
       (λ image. HoldsCollections image (world old).collections))
+  -- and where the turn changed something, what a crash leaves then names each free page
+  pub listed : IsRunning old → has_changes old ≡ true
+      → OnOk result (CrashLeaves (disk_history history new) NamesFreePages)
   -- Device comes only where a write or a sync had failed before the call, or failed in it
   pub device : result ≡ Err faults.Device → KeepsWord (disk_history history new)
       → (is_stopped old ≡ true)

@@ -250,6 +250,15 @@ commits_once history old mid new P true moved quiet continues version =
     inr (version ∙ ap (λ (b : Bool). if b then generation mid + 1 else generation mid) moved ∙ ap (λ (n : ℕ). n + 1) continues.version)
 commits_once history old mid new P false clean quiet continues version = inl (quiet clean)
 
+-- and one that committed had changed something
+pub had_changes : {D : Type 0} (history : D → History) (old mid new : Engine D) (changed : Bool) → has_changes mid ≡ changed
+    → Continues history old mid → generation new ≡ (if has_changes mid then generation mid + 1 else generation mid)
+    → generation new ≡ generation old + 1 → has_changes mid ≡ true
+had_changes history old mid new true moved continues version more = moved
+had_changes history old mid new false clean continues version more =
+    let same = version ∙ ap (λ (b : Bool). if b then generation mid + 1 else generation mid) clean ∙ continues.version in
+    absurd (omega (arith, same, more))
+
 -- what has no changes had none before
 pub rested_before : (old new : Bool) → (old ≡ true → new ≡ true) → new ≡ false → old ≡ false
 rested_before true new keeps clean = absurd (let is = keeps refl in cc)

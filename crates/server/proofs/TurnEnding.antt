@@ -25,7 +25,7 @@ use Rattle.server.specs.Turn.{AllRead, ChangeNothing, LeftAll, LeftCollections, 
 use Rattle.server.specs.Taking.{Serves}
 use Rattle.server.specs.View.{frames_in}
 use Rattle.server.specs.declared.connection.Connection.{Connection}
-use Rattle.server.proofs.CauseLemmas.{commit_follows, undo_follows, turn_follows, commits_once, idle_commit, quiet_commit, room_ran_out}
+use Rattle.server.proofs.CauseLemmas.{commit_follows, undo_follows, turn_follows, commits_once, had_changes, idle_commit, quiet_commit, room_ran_out}
 use Rattle.server.proofs.CauseLemmas.{any_cause, cause_over, changed_none, left_weaker, runs_weaker, wrote_weaker}
 use Rattle.server.proofs.Images.{unwritten, unwritten_on, then_on, moved, moved_back, failed_further, on_same}
 
@@ -138,6 +138,7 @@ module _ {D : Type 0} (history : D → History) (old mid new : Engine D) (b : Be
         device = λ none. absurd cc;
         moment = turn_follows history old mid new s.continues (after, omega (arith, version));
         commits = inl (same_again back);
+        listed = λ more. absurd (omega (arith, more, version, s.continues.version));
         cut = λ none. absurd cc;
         quiet = λ _ _. continues;
         reads = λ _. continues;
@@ -201,6 +202,7 @@ module _ {D : Type 0} (history : D → History) (old mid new : Engine D) (b : Be
     moment = moment_so (Ok tt) c;
     commits = commits_once history old mid new ((world new).collections ≡ (world old).collections) (has_changes mid) refl
         (λ clean. ap (λ (w : World). w.collections) c.done ∙ sym (s.sound.quiet clean) ∙ before) s.continues c.version;
+    listed = λ more. c.listed (s.continues.running ∙ b.running) (had_changes history old mid new (has_changes mid) refl s.continues c.version more);
     cut = λ e. absurd cc;
     quiet = quiet_so (Ok tt) c;
     reads = λ only. unchanged (Ok tt) c (s.reads only);
@@ -233,6 +235,7 @@ module _ {D : Type 0} (history : D → History) (old mid new : Engine D) (b : Be
     device = λ e. absurd cc;
     moment = moment_so (Err faults.Memory) c;
     commits = inl (same_again (c.memory refl));
+    listed = λ more. absurd (omega (arith, more, c.version, s.continues.version));
     cut = λ e. absurd cc;
     quiet = quiet_so (Err faults.Memory) c;
     reads = λ only. unchanged (Err faults.Memory) c (s.reads only);
@@ -276,6 +279,7 @@ module _ {D : Type 0} (history : D → History) (old mid new : Engine D) (b : Be
     device = λ e. absurd cc;
     moment = moment_so (Err faults.Full) c;
     commits = inl (same_again ((c.full refl).0));
+    listed = λ more. absurd (omega (arith, more, c.version, s.continues.version));
     cut = λ e. absurd cc;
     quiet = quiet_so (Err faults.Full) c;
     reads = λ only. unchanged (Err faults.Full) c (s.reads only);
@@ -300,6 +304,7 @@ module _ {D : Type 0} (history : D → History) (old mid new : Engine D) (b : Be
     device = λ _ k. failed_further history old mid new b.sound b.running b.idle s.continues c.extends k s.continues.running (c.device refl k);
     moment = moment_so (Err faults.Device) c;
     commits = tt;
+    listed = tt;
     cut = λ _. c.version ∙ s.continues.version;
     quiet = quiet_so (Err faults.Device) c;
     reads = λ only. unchanged (Err faults.Device) c (s.reads only);

@@ -4,7 +4,8 @@ use Rattle.std.specs.Prelude.{◌≡◌, ◌⊎◌, ◌+◌, ◌<◌, ℕ, List,
 use Rattle.std.specs.Prelude.{true, false}
 use Rattle.std.specs.Global.{Global}
 use Rattle.page.specs.History.{History, KeepsWord}
-use Rattle.page.specs.Crash.{ExtendsHistory, LeavesOnly}
+use Rattle.page.specs.Crash.{CrashLeaves, ExtendsHistory, LeavesOnly}
+use Rattle.collections.specs.FreePages.{NamesFreePages}
 use Rattle.database_model.specs.World.{are_untouched}
 use Rattle.engine.specs.View.{world, turn_start}
 use Rattle.engine.specs.Continuing.{Continues}
@@ -48,6 +49,9 @@ pub record RunsMessages {D : Type 0} (history : D → History) (old : Engine D)
   pub moment : FollowsInTurn (engine_moment history old) (engine_moment history new)
   pub commits : IfSome result (λ _. ((world new).collections ≡ (world old).collections)
       ⊎ (generation new ≡ generation old + 1))
+  -- where it committed, what a crash leaves names each free page
+  pub listed : IfSome result (λ _. generation new ≡ generation old + 1
+      → CrashLeaves (disk_history history new) NamesFreePages)
   pub cut : result ≡ None → generation new ≡ generation old
   pub quiet : KeepsWord (disk_history history new)
       → ChangeNothing OfAnyCause (world old) (calls connections) → Continues history old new

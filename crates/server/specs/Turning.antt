@@ -4,6 +4,7 @@ use Rattle.std.specs.Prelude.{OnErr}
 use Rattle.page.specs.History.{History, KeepsWord}
 use Rattle.page.specs.Crash.{ExtendsHistory, LeavesOnly, CrashLeaves}
 use Rattle.trusted_disk.specs.Trusting.{trusted_history}
+use Rattle.collections.specs.FreePages.{NamesFreePages}
 use Rattle.engine.specs.Continuing.{Continues}
 use Rattle.opening.specs.Holding.{HoldsCollections}
 use Rattle.server.specs.Turn.{calls, connections_after, AllRead, HandsOut, RunsAndHandsOut, Turns}
@@ -61,6 +62,10 @@ pub record TakesTurn {D : Type 0} (history : D → History) (old : Core D)
       → OnOk result
       (CrashLeaves (disk_history history new)
       (λ image. HoldsCollections image (collections_of new)))
+  -- and where it committed, what a crash leaves then names each free page
+  pub listed : OnOk result ((moment_of history new).generation
+      ≡ (moment_of history old).generation + 1
+      → CrashLeaves (disk_history history new) NamesFreePages)
   -- a server that had stopped answers so, and leaves the disk as it is; another stops only where a
   -- write or a sync failed
   pub running : result ≢ Err turn_faults.Stopped → is_stopped new ≡ is_stopped old

@@ -6,7 +6,9 @@ use Rattle.opening.specs.Holding.{HoldsCollections}
 use Rattle.server.specs.Causes.{IsCaused}
 use Rattle.server.specs.History.{TakenBack}
 use Rattle.server.specs.Moment.{Moment, FollowsInTurn}
-use Rattle.page.specs.History.{KeepsWord}
+use Rattle.page.specs.History.{History, KeepsWord}
+use Rattle.page.specs.Crash.{CrashLeaves}
+use Rattle.collections.specs.FreePages.{NamesFreePages}
 use Rattle.trusted_disk.specs.Trusting.{trusted_history}
 use Rattle.database_model.specs.World.{World}
 use Rattle.engine.specs.Continuing.{Continues}
@@ -95,6 +97,7 @@ returns-then-is_stopped g c = record {
   device = search rules;
   moment = in_turn_itself (moment_of g.D.Disk.history c.args.self.now);
   commits = tt;
+  listed = tt;
   void = λ _. refl;
   quiet = λ _ _. continues_itself (trusted_history g.D.Disk.history) c.args.self.now.engine;
   uncommitted = refl;
@@ -122,6 +125,7 @@ returns-in_err-refusals g c = record {
   device = search rules;
   moment = in_turn_itself (moment_of g.D.Disk.history c.args.self.now);
   commits = search rules;
+  listed = search rules;
   void = λ _. refl;
   quiet = λ _ _. continues_itself (trusted_history g.D.Disk.history) c.args.self.now.engine;
   uncommitted = search rules;
@@ -168,6 +172,7 @@ returns-in_default g c =
       device = λ _ k. inr (c.in_default.ensures.device refl k);
       moment = ran.moment;
       commits = tt;
+      listed = tt;
       void = ran.void;
       quiet = ran.quiet;
       uncommitted = c.in_default.ensures.cut refl;
@@ -235,6 +240,8 @@ returns g c =
           (λ same. inl (ap (λ (w : World). w.collections) forgets ∙ forget_all_state (world c.run_messages.new.engine) prepared.closed.items ∙ same))
           (λ committed. inr (ap (λ (m : Moment). m.generation) forgot.moment ∙ committed))
           c.in-Some.ensures.commits;
+      listed = λ more. subst (λ (h : History). CrashLeaves h NamesFreePages) (sym forgot.disk)
+          (c.in-Some.ensures.listed (ap (λ (m : Moment). m.generation) (sym forgot.moment) ∙ more));
       void = λ none. forgot.disk ∙ ran.void none;
       quiet = λ k nothing. behind (ran.quiet (subst KeepsWord forgot.disk k) nothing);
       uncommitted = tt;
