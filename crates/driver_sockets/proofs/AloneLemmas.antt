@@ -7,12 +7,15 @@ use Rattle.std.proofs.lemmas.Bool.{cases_lt, true≢false}
 use Rattle.std.proofs.lemmas.List.{get_or-set_other, get_or-set_same, length-set, length-map, length-append, get_or-map}
 use Rattle.std.proofs.lemmas.List.{get_or_default, get_or_append_left, get_or-append_right, get_or-replicate, get_or_push, length-replicate}
 use Rattle.drivers.specs.Answering.{asks_alone}
-use Rattle.drivers.specs.AloneLaws.{is_later}
+use Rattle.drivers.specs.AloneLaws.{is_later, stays_asked}
 use Rattle.driver_sockets.specs.Alone.{is_alone, alone_in, has_begun, begun_in, StandsAlone, AreLentTo, NobodyBetween, GoesOnAlone, IsNobodyAlone}
+use Rattle.driver_sockets.specs.Questions.{kept_plan, plan_at}
 use Rattle.driver_sockets.specs.Serving.{answered, OthersStay, HaveGrown, fresh, fed}
 use Rattle.driver_sockets.specs.Lending.{loan_at, borrower, IsLoanOf, Lends}
 use Rattle.driver_sockets.specs.Tying.{is_asked, was_asked, AreTied}
 use Rattle.driver_sockets.specs.declared.job.Job.{Job}
+use Rattle.driver_sockets.specs.declared.job.Stage.{Stage}
+use Rattle.driver_sockets.specs.declared.job.Stage.TheVariants as stages
 use Rattle.driver_sockets.specs.declared.lending.Loan.{Loan}
 use Rattle.driver_sockets.specs.declared.socket.Socket.{Socket}
 use Rattle.driver_sockets.proofs.LoanLemmas.{lends_none}
@@ -31,6 +34,14 @@ begun_alone s e = at s.job e
     at : (j : Option Job) → begun_in j ≡ true → alone_in j ≡ true
     at None e = absurd cc
     at (Some job) e = and_first (asks_alone job.plan.wait) (was_asked job.stage || is_later job.plan.wait) e
+
+-- what is asked makes none of it
+pub kept_alone : (job : Job) → asks_alone (kept_plan job).wait ≡ asks_alone job.plan.wait
+kept_alone job = at job.stage
+  where
+    at : (stage : Stage) → asks_alone (plan_at stage job.plan).wait ≡ asks_alone job.plan.wait
+    at (stages.Asks question) = stays_asked job.plan question.command
+    at stages.Waits = refl
 
 -- one that waits for a reply has begun
 pub asked_begun : (s : Socket) → is_asked s.job ≡ true → is_alone s ≡ true → has_begun s ≡ true

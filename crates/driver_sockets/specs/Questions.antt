@@ -5,8 +5,10 @@ use Rattle.op_msg.specs.Request.{reply_bytes}
 use Rattle.driver_messages.specs.Incoming.{next_message}
 use Rattle.driver_messages.specs.declared.message.Message.{Message}
 use Rattle.driver_messages.specs.declared.stream_fault.StreamFault.{StreamFault}
+use Rattle.drivers.specs.Answering.{with_asked}
 use Rattle.drivers.specs.Laws.{asked_by}
 use Rattle.drivers.specs.Starting.{started}
+use Rattle.drivers.specs.declared.plan.Plan.{Plan}
 use Rattle.drivers.specs.declared.server_info.ServerInfo.{ServerInfo}
 use Rattle.driver_sockets.specs.declared.job.Job.{Job}
 use Rattle.driver_sockets.specs.declared.job.Question.{Question}
@@ -62,9 +64,17 @@ pending (Some job) = pending_at job.stage
 abbrev pub question_bytes : Pairs → List ℕ
 question_bytes command = reply_bytes 1 0 command
 
+-- what is kept of a message that is worked on, with what is to be asked for it
+abbrev pub plan_at : Stage → Plan → Plan
+plan_at (stages.Asks question) plan = with_asked plan question.command
+plan_at stages.Waits plan = plan
+
+abbrev pub kept_plan : Job → Plan
+kept_plan job = plan_at job.stage job.plan
+
 -- it was asked, and the reply is awaited
 abbrev pub waiting_job : Job → Job
-waiting_job job = record job { stage = stages.Waits }
+waiting_job job = record job { plan = kept_plan job; stage = stages.Waits }
 
 abbrev pub waiting : Socket → Socket
 waiting socket = record socket { job = option_map waiting_job socket.job }

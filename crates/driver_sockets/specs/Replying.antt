@@ -9,7 +9,7 @@ use Rattle.op_msg.specs.Request.{document_in}
 use Rattle.driver_messages.specs.declared.message.Form.{Form}
 use Rattle.driver_messages.specs.declared.message.Message.{Message}
 use Rattle.driver_messages.specs.declared.stream_fault.StreamFault.{StreamFault}
-use Rattle.drivers.specs.Answering.{answered, plan_of}
+use Rattle.drivers.specs.Answering.{answered, first_plan}
 use Rattle.drivers.specs.Framing.{framed}
 use Rattle.drivers.specs.Starting.{started}
 use Rattle.drivers.specs.declared.plan.Plan.{Plan}
@@ -18,6 +18,7 @@ use Rattle.drivers.specs.declared.step.Step.{Step}
 use Rattle.drivers.specs.declared.step.Step.TheVariants as steps
 use Rattle.database_model.specs.Refusals.{refusal_reply}
 use Rattle.path.specs.declared.refusal.Refusal.TheVariants as refusals
+use Rattle.driver_sockets.specs.Questions.{kept_plan}
 use Rattle.driver_sockets.specs.declared.job.Job.{Job}
 use Rattle.driver_sockets.specs.declared.job.Question.{Question}
 use Rattle.driver_sockets.specs.declared.job.Stage.TheVariants as stages
@@ -97,16 +98,16 @@ abbrev pub resting : Socket → Socket
 resting socket = record socket { job = None }
 
 -- The server has replied to the message that is worked on, if one is: what is done then is what its
--- plan says.
+-- plan says, with what was asked.
 abbrev pub TakesReply : Socket → Option Job → Pairs → Socket → Type 0
 TakesReply old None reply new = new ≡ resting old
 TakesReply old (Some job) reply new =
-    Follows (resting old) job.form job.number (answered job.plan reply) new
+    Follows (resting old) job.form job.number (answered (kept_plan job) reply) new
 
 -- What is done first with a message.
 abbrev pub Starts : ServerInfo → Socket → Message → Socket → Type 0
 Starts info old message new =
-    Follows old message.form message.number (plan_of info.ids message, started info message) new
+    Follows old message.form message.number (first_plan info.ids message, started info message) new
 
 -- What is done first with the message at the front. For a fault there the socket is to be closed.
 abbrev pub BeginsWith : ServerInfo → Socket → Result (Option (Message × List ℕ)) StreamFault

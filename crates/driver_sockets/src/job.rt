@@ -1,7 +1,11 @@
 //! A message that is worked on.
 
+ghost use Rattle.std.specs.Prelude.{◌≡◌};
+ghost use Rattle.driver_sockets.specs.Questions.{plan_at};
+
 use bson::Document;
 use drivers::{Form, Plan};
+use std::alloc::Global;
 
 /// What the database is to be asked for a message: a command, and the cursor whose owner has to be asked.
 #[derive(Drop)]
@@ -26,4 +30,14 @@ pub struct Job {
     pub number: u32,
     pub plan: Plan,
     pub stage: Stage,
+}
+
+/// What is to be asked was asked: what of it is kept.
+pub(crate) fn keep_asked(alloc: Global, plan: &mut Plan, stage: Stage)
+    ensures { plan.new ≡ plan_at stage plan.old }
+{
+    match stage {
+        Stage::Asks(question) => plan.keep(alloc, question.command),
+        Stage::Waits => {}
+    }
 }

@@ -15,7 +15,7 @@ ghost use Rattle.driver_sockets.specs.Alone.{has_begun, is_alone};
 ghost use Rattle.drivers.specs.Answering.{asks_alone};
 ghost use Rattle.drivers.specs.AloneLaws.{is_later};
 
-use crate::job::{Job, Question, Stage};
+use crate::job::{Job, Question, Stage, keep_asked};
 use bson::{Document, MESSAGE_LIMIT, NoMemory};
 use drivers::{Form, Incoming, Message, Plan, ServerInfo, Step, StreamFault, framed};
 use op_msg::next_number;
@@ -213,14 +213,15 @@ impl Socket {
         }
     }
 
-    /// The database was asked.
-    pub fn wait(&mut self)
+    /// The database was asked: what of it is kept, and the reply is waited for.
+    pub fn wait(&mut self, alloc: Global)
         ensures asked { is_some self.old.job ≡ true → is_asked self.new.job ≡ true }
         ensures alone { is_alone self.new ≡ is_alone self.old }
         ensures waits { self.new ≡ waiting self.old }
     {
         if let Some(job) = &mut self.job {
-            job.stage = Stage::Waits;
+            let stage = mem::replace(&mut job.stage, Stage::Waits);
+            keep_asked(alloc, &mut job.plan, stage);
         }
     }
 
@@ -252,7 +253,7 @@ impl Socket {
             mut plan,
             stage,
         } = job;
-        drop(stage);
+        keep_asked(alloc, &mut plan, stage);
         match plan.answer(alloc, reply) {
             Ok(step) => self.follow(alloc, form, number, plan, step),
             Err(fault) => {

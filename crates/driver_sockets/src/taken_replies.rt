@@ -11,6 +11,7 @@ use crate::open_cursors::{OpenCursor, OpenCursors};
 use crate::socket::Socket;
 use bson::{Document, NoMemory, Text, Value};
 use bson_bytes::decode;
+use drivers::cursor_left;
 use op_msg::FRAME_BYTES;
 use replies::ConnId;
 use std::alloc::{AllocError, Global};
@@ -25,18 +26,6 @@ fn document_of(alloc: Global, frame: &[u8]) -> Result<Document, NoMemory>
     match decode(alloc, body) {
         Ok((document, _)) => Ok(document),
         Err(_) => Err(AllocError),
-    }
-}
-
-/// The number of the cursor that a reply leaves open.
-fn cursor_left(reply: &Document) -> Option<i64> {
-    let Some(Value::Document(cursor)) = reply.get("cursor") else {
-        return None;
-    };
-    match cursor.get("id") {
-        Some(Value::Int64(0)) => None,
-        Some(Value::Int64(id)) => Some(*id),
-        _ => None,
     }
 }
 

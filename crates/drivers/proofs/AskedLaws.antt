@@ -25,8 +25,9 @@ use Rattle.driver_replies.specs.declared.kills.Kills.{Kills}
 use Rattle.driver_replies.specs.declared.modifying.Modification.{Modification}
 use Rattle.drivers.specs.Answering.{answered, answered_by, change_found, changed, changed_by, cursor_left, distinct_next, distinct_on, drop_listed, drop_next}
 use Rattle.drivers.specs.Answering.{drop_step, end_cursor, error_step, final, found, found_again, found_none, found_part, kill_next, killed, modified}
-use Rattle.drivers.specs.Answering.{next_statement, plan_in, reworded, told_step, whole_step}
-use Rattle.drivers.specs.Asked.{EndsAsWanted, IgnoredGoesTheSame, IsHeardAsWanted, RefusedAsksNothing, after_replies, asked_from, begun, message_of}
+use Rattle.drivers.specs.Answering.{asked_wait, next_statement, plan_in, reworded, told_step, whole_step}
+use Rattle.drivers.specs.Asked.{EndsAsWanted, IgnoredGoesTheSame, IsHeardAsWanted, KeepsWhatIsAsked, RefusedAsksNothing, after_replies, asked_from, begun}
+use Rattle.drivers.specs.Asked.{message_of}
 use Rattle.driver_fields.specs.Cleaning.{first_refused, kept}
 use Rattle.driver_fields.specs.Commands.{command_of}
 use Rattle.drivers.specs.Explaining.{explained}
@@ -48,6 +49,7 @@ use Rattle.drivers.specs.declared.step.Step.{Step}
 use Rattle.drivers.specs.declared.step.Step.TheVariants as steps
 use Rattle.drivers.proofs.AskingLaws.{ignored_makes_no_difference}
 use Rattle.drivers.proofs.PlanLaws.{ignored_leaves_the_plan}
+use Rattle.drivers.proofs.StatementLaws.{keeps_first}
 
 -- it asks or answers
 abbrev Speaks : Step → Type 0
@@ -143,26 +145,31 @@ message_speaks forms.Message info (Err fault) = fault_speaks fault
 
 -- ---- what is done behind a reply
 
--- it ends as is wanted, and what is wanted is kept
+-- what is asked makes no difference to it
+abbrev IsKept : Wait → Type 0
+IsKept (waits.Whole write ordered ids) = ⊥
+IsKept other = Unit {0}
+
+-- it ends as is wanted, what is wanted is kept, and what is asked next isn't
 abbrev Ends : Plan → Plan × Step → Type 0
-Ends plan x = (x.0.more_to_come ≡ plan.more_to_come) × EndsAsWanted plan.more_to_come x.1
+Ends plan x = (x.0.more_to_come ≡ plan.more_to_come) × EndsAsWanted plan.more_to_come x.1 × IsKept x.0.wait
 
 plain : (plan : Plan) (step : Step) → Speaks step → Ends plan (record plan { wait = waits.Plain }, unheard plan.more_to_come step)
-plain plan step h = (refl, heard plan.more_to_come step h)
+plain plan step h = (refl, heard plan.more_to_come step h, tt)
 
 told : (plan : Plan) (reply : Pairs) → Ends plan (record plan { wait = waits.Plain }, final plan reply)
-told plan reply = (refl, heard plan.more_to_come (steps.Reply _) tt)
+told plan reply = (refl, heard plan.more_to_come (steps.Reply _) tt, tt)
 
 answers : (plan : Plan) (reply : Pairs) → Ends plan (told_step plan reply)
 answers plan reply = plain plan (steps.Reply reply) tt
 
 single : (id : Option ℤ) (plan : Plan) (reply : Pairs) → Ends plan (end_cursor id plan reply)
 single None plan reply = told plan reply
-single (Some id) plan reply = (refl, tt)
+single (Some id) plan reply = (refl, tt, tt)
 
 kills_on : (id : Option ℤ) (plan : Plan) (kills : Kills) → Ends plan (kill_next id plan kills)
 kills_on None plan kills = plain plan (steps.Reply _) tt
-kills_on (Some z) plan kills = (refl, tt)
+kills_on (Some z) plan kills = (refl, tt, tt)
 
 kill_ends : (t : Option Tree) (plan : Plan) (kills : Kills) (reply : Pairs) → Ends plan (killed t plan kills reply)
 kill_ends None plan kills reply = told plan reply
@@ -174,7 +181,7 @@ error_ends (Some z) plan reply = plain plan (steps.Reply _) tt
 
 statement_ends : (command : Option Pairs) (plan : Plan) (batch : Batch) → Ends plan (next_statement command plan batch)
 statement_ends None plan batch = plain plan (steps.Reply _) tt
-statement_ends (Some command) plan batch = (refl, tt)
+statement_ends (Some command) plan batch = (refl, tt, tt)
 
 whole_ends : (code : Option ℤ) (plan : Plan) (batch : Batch) (reply : Pairs) → Ends plan (whole_step code plan batch reply)
 whole_ends None plan batch reply = told plan reply
@@ -182,7 +189,7 @@ whole_ends (Some z) plan batch reply = statement_ends (next_command batch.left b
 
 drop_ends : (command : Option Pairs) (plan : Plan) (ts : Items) → Ends plan (drop_next command plan ts)
 drop_ends None plan ts = plain plan (steps.Reply _) tt
-drop_ends (Some command) plan ts = (refl, tt)
+drop_ends (Some command) plan ts = (refl, tt, tt)
 
 listed_ends : (ts : Option Items) (plan : Plan) (reply : Pairs) → Ends plan (drop_listed ts plan reply)
 listed_ends None plan reply = told plan reply
@@ -195,7 +202,7 @@ dropped_ends false plan ts reply = told plan reply
 
 values_end : (id : Option ℤ) (plan : Plan) (d : Distinct) → Ends plan (distinct_next id plan d)
 values_end None plan d = plain plan (steps.Reply _) tt
-values_end (Some id) plan d = (refl, tt)
+values_end (Some id) plan d = (refl, tt, tt)
 
 distinct_ends : (ts : Option Items) (plan : Plan) (d : Distinct) (reply : Pairs) → Ends plan (distinct_on ts plan d reply)
 distinct_ends None plan d reply = told plan reply
@@ -207,7 +214,7 @@ either true plan x y h k = h
 either false plan x y h k = k
 
 modified_ends : (plan : Plan) (m : Modification) (is_new : Bool) (was : Option Pairs) (subject : Pairs) → Ends plan (modified plan m is_new was subject)
-modified_ends plan m is_new was subject = either m.wants_new plan _ _ (refl, tt) (answers plan _)
+modified_ends plan m is_new was subject = either m.wants_new plan _ _ (refl, tt, tt) (answers plan _)
 
 changed_ends_by : (subject : Option Pairs) (plan : Plan) (m : Modification) (is_new : Bool) (was : Option Pairs) (reply : Pairs)
     → Ends plan (changed_by subject plan m is_new was reply)
@@ -221,14 +228,14 @@ changed_ends None plan m None reply = either m.may_insert plan _ _ (changed_ends
 
 change_ends : (subject : Option Pairs) (plan : Plan) (m : Modification) (ps reply : Pairs) → Ends plan (change_found subject plan m ps reply)
 change_ends None plan m ps reply = told plan reply
-change_ends (Some subject) plan m ps reply = (refl, tt)
+change_ends (Some subject) plan m ps reply = (refl, tt, tt)
 
 part_ends : (part : Option Pairs) (plan : Plan) (m : Modification) (reply : Pairs) → Ends plan (found_part part plan m reply)
 part_ends None plan m reply = told plan reply
 part_ends (Some ps) plan m reply = change_ends (subject_of ps) plan m ps reply
 
 none_ends : (plan : Plan) (m : Modification) → Ends plan (found_none plan m)
-none_ends plan m = either m.is_removal plan _ _ (answers plan _) (refl, tt)
+none_ends plan m = either m.is_removal plan _ _ (answers plan _) (refl, tt, tt)
 
 found_ends : (ts : Option Items) (plan : Plan) (m : Modification) (reply : Pairs) → Ends plan (found ts plan m reply)
 found_ends None plan m reply = told plan reply
@@ -245,6 +252,7 @@ by_wait waits.Plain plan reply = told plan reply
 by_wait waits.Single plan reply = single (cursor_left reply) plan reply
 by_wait (waits.Ended answer) plan reply = told plan answer
 by_wait waits.Write plan reply = error_ends (refused_statement (lookup reply (codes "code"))) plan reply
+by_wait (waits.Whole write ordered ids) plan reply = told plan reply
 by_wait (waits.Batch batch) plan reply = whole_ends (refused_statement (lookup reply (codes "code"))) plan batch reply
 by_wait (waits.Statement batch) plan reply =
     let after = after_reply batch (reworded plan.database plan.collection reply) in
@@ -303,3 +311,32 @@ ignored_goes_the_same info number more command value before name t behind has_ru
         let plan = ignored_leaves_the_plan info.ids more command value before name t behind has_rule in
         let step = ignored_makes_no_difference info command value before name t behind ignored in
         (λ i. (plan i, unheard more (step i)))
+
+-- ---- what is kept with what is asked
+
+asked_still : (w : Wait) (command : Pairs) → IsKept w → asked_wait w command ≡ w
+asked_still waits.Plain command h = refl
+asked_still waits.Single command h = refl
+asked_still (waits.Ended answer) command h = refl
+asked_still waits.Write command h = refl
+asked_still (waits.Whole write ordered ids) command h = absurd h
+asked_still (waits.Batch batch) command h = refl
+asked_still (waits.Statement batch) command h = refl
+asked_still waits.Listed command h = refl
+asked_still (waits.Drops ts) command h = refl
+asked_still (waits.Kill kills) command h = refl
+asked_still (waits.Collections wanted) command h = refl
+asked_still waits.Indexes command h = refl
+asked_still waits.Explained command h = refl
+asked_still (waits.Found m) command h = refl
+asked_still (waits.Changed m was) command h = refl
+asked_still (waits.Again m is_new subject) command h = refl
+asked_still (waits.Distinct d) command h = refl
+
+pub keeps_what_is_asked : KeepsWhatIsAsked
+keeps_what_is_asked = record {
+  first = keeps_first;
+  later = λ plan reply command.
+      let next = (answered plan reply).0 in
+      ap (λ (w : Wait). record next { wait = w }) (asked_still next.wait command (by_wait plan.wait plan reply).2);
+}

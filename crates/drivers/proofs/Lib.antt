@@ -1,5 +1,5 @@
 mod AskingLaws
 pub mod StatementLaws
 mod PlanLaws
-mod AskedLaws
+pub mod AskedLaws
 mod ChangedLemmas

@@ -7,8 +7,8 @@ use Rattle.std.proofs.lemmas.Slice.Eq.{bytes_eq-Decides}
 use Rattle.bson.specs.Tree.{Tree, Pairs, pair, Items, append}
 use Rattle.bson.specs.Lookup.{lookup}
 use Rattle.path.specs.Parts.{path_of}
-use Rattle.drivers.specs.Answering.{wait_of, kill_wait, distinct_kept, distinct_wait, collections_wait, batch_wait, write_wait, other_wait}
-use Rattle.drivers.specs.Answering.{is_modification, is_single}
+use Rattle.drivers.specs.Answering.{wait_of, kill_wait, distinct_kept, distinct_wait, collections_wait, write_wait, other_wait}
+use Rattle.drivers.specs.Answering.{is_modification, is_single, asked_wait, whole_write}
 use Rattle.driver_fields.specs.Cleaning.{own_rule, is_kept, kept}
 use Rattle.driver_replies.specs.Cursors.{ids_of, ids_in, no_kills}
 use Rattle.drivers.specs.Laws.{IgnoredLeavesThePlan}
@@ -19,7 +19,7 @@ use Rattle.driver_replies.specs.NewIds.{with_new_ids}
 use Rattle.driver_replies.specs.declared.modifying.Modification.{Modification}
 use Rattle.driver_fields.specs.Rules.{rule_of}
 use Rattle.driver_replies.specs.Texts.{text_or_none}
-use Rattle.driver_replies.specs.Writes.{is_true, write_of, field_of, is_alone, is_ordered_in, batch_of}
+use Rattle.driver_replies.specs.Writes.{is_true, write_of, field_of, is_alone, is_ordered_in}
 use Rattle.driver_replies.specs.declared.fresh_ids.FreshIds.{FreshIds}
 use Rattle.driver_replies.specs.declared.writes.Write.{Write}
 use Rattle.driver_replies.specs.declared.writes.Write.TheVariants as writes
@@ -130,14 +130,11 @@ dropped asked name has = at (own_rule asked name)
 
 write-alike : (ids : FreshIds) (ps qs : Pairs) (write : Write) → AreAlike ps qs → write_wait ids ps write ≡ write_wait ids qs write
 write-alike ids ps qs write h =
-    ap (λ (x : Option Tree). wait x (lookup ps (codes "ordered")) (kept askeds.Write ps)) (h.found (field_of write) (no_rule_statements write))
-    ∙ ap (λ (x : Option Tree). wait (lookup qs (field_of write)) x (kept askeds.Write ps)) (h.found (codes "ordered") no_rule_ordered)
-    ∙ ap (wait (lookup qs (field_of write)) (lookup qs (codes "ordered"))) (h.left askeds.Write)
+    ap (λ (x : Option Tree). wait x (lookup ps (codes "ordered"))) (h.found (field_of write) (no_rule_statements write))
+    ∙ ap (wait (lookup qs (field_of write))) (h.found (codes "ordered") no_rule_ordered)
   where
-    wait : Option Tree → Option Tree → Pairs → Wait
-    wait statements ordered left =
-        if is_alone write statements then waits.Write
-        else batch_wait (batch_of write (is_ordered_in ordered) ids (with_new_ids ids (Some write) left))
+    wait : Option Tree → Option Tree → Wait
+    wait statements ordered = if is_alone write statements then waits.Write else waits.Whole write (is_ordered_in ordered) ids
 
 other-alike : (ids : FreshIds) (ps qs : Pairs) (write : Option Write) → AreAlike ps qs → other_wait ids ps write ≡ other_wait ids qs write
 other-alike ids ps qs None h = refl
@@ -214,10 +211,14 @@ ignored_leaves_the_plan ids more command value before name t behind has =
       found = λ other hasnt. found-without whole name t behind other (differs name other has hasnt);
       left = λ asked. kept-without asked whole name t behind (dropped asked name has);
     } in
-    ap (λ (database : Option Tree). plan-of (text_or_none database) (wait_of ids (append whole (pair name t behind))))
+    let with_it = append whole (pair name t behind) in
+    let without_it = append whole behind in
+    ap (λ (database : Option Tree). plan-of (text_or_none database) (asked_wait (wait_of ids with_it) (whole_write ids with_it)))
     (alike.found (codes "$db") no_rule_database)
-    ∙ ap (λ (w : Wait). plan-of (text_or_none (lookup (append whole behind) (codes "$db"))) w)
+    ∙ ap (λ (w : Wait). plan-of (text_or_none (lookup without_it (codes "$db"))) (asked_wait w (whole_write ids with_it)))
     (wait-alike ids command value (append before (pair name t behind)) (append before behind) alike)
+    ∙ ap (λ (left : Pairs). plan-of (text_or_none (lookup without_it (codes "$db")))
+    (asked_wait (wait_of ids without_it) (with_new_ids ids (write_of command) left))) (alike.left askeds.Write)
   where
     plan-of : List ℕ → Wait → Plan
     plan-of database wait = record {

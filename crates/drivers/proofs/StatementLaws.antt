@@ -1,6 +1,6 @@
--- What is kept of a write is the command that was asked first.
+-- What is kept of a write is the command that was asked first, and it is kept with what was asked.
 use Rattle.std.proofs.Common.{◌≡◌, ℕ, Bool, true, false, List, codes, Option, Some, None, refl, ap, sym, subst, ◌∙◌}
-use Rattle.std.specs.Prelude.{◌==◌, if◌then◌else◌}
+use Rattle.std.specs.Prelude.{◌==◌, if◌then◌else◌, Result, Ok, Err}
 use Rattle.std.specs.Str.{bytes_eq}
 use Rattle.std.proofs.lemmas.Slice.Eq.{bytes_eq-Decides}
 use Rattle.bson.specs.Edits.{items_len, put}
@@ -15,66 +15,76 @@ use Rattle.driver_replies.specs.declared.distinct.Distinct.{Distinct}
 use Rattle.driver_replies.specs.declared.fresh_ids.FreshIds.{FreshIds}
 use Rattle.driver_replies.specs.declared.writes.Write.{Write}
 use Rattle.driver_replies.specs.declared.writes.Write.TheVariants as writes
-use Rattle.drivers.specs.Answering.{kill_wait, distinct_kept, other_wait, wait_of, is_modification, is_single}
+use Rattle.driver_messages.specs.declared.message.BodyFault.{BodyFault}
+use Rattle.driver_messages.specs.declared.message.Form.{Form}
+use Rattle.driver_messages.specs.declared.message.Form.TheVariants as forms
+use Rattle.driver_messages.specs.declared.message.Message.{Message}
+use Rattle.drivers.specs.Answering.{kill_wait, distinct_kept, other_wait, wait_of, is_modification, is_single, first_plan_for, first_plan_in, first_plan}
+use Rattle.drivers.specs.Answering.{batch_wait, asked_wait, with_asked, whole_write, plan_for, plan_in, plan_of}
 use Rattle.driver_fields.specs.Cleaning.{is_kept, own_fields, kept_array, with_kept, kept_under, first_refused, kept}
 use Rattle.driver_fields.specs.Commands.{command_of}
-use Rattle.drivers.specs.Laws.{done, AreOfCommand, AsksSameStatements}
+use Rattle.drivers.specs.Laws.{asked_by, done, AreOfCommand, AsksSameStatements}
 use Rattle.driver_fields.specs.Rules.{rule_of}
-use Rattle.drivers.specs.Starting.{name_of, ask_unless, do_command}
+use Rattle.drivers.specs.Starting.{name_of, ask_unless, do_command, do_message, do_query, started, unheard}
 use Rattle.driver_fields.specs.declared.cleaning.Whose.{Whose}
 use Rattle.driver_fields.specs.declared.cleaning.Whose.TheVariants as whoses
 use Rattle.driver_fields.specs.declared.command.Asked.TheVariants as askeds
 use Rattle.driver_fields.specs.declared.command.Command.{Command}
 use Rattle.driver_fields.specs.declared.command.Command.TheVariants as commands
+use Rattle.driver_fields.specs.declared.command.Own.TheVariants as owns
 use Rattle.drivers.specs.declared.plan.Wait.{Wait}
 use Rattle.drivers.specs.declared.plan.Wait.TheVariants as waits
 use Rattle.driver_fields.specs.declared.reason.Reason.{Reason}
 use Rattle.drivers.specs.declared.server_info.ServerInfo.{ServerInfo}
+use Rattle.drivers.specs.declared.step.Step.{Step}
 use Rattle.drivers.specs.declared.step.Step.TheVariants as steps
 
 -- ---- where statements are kept, the command is a write
 
-abbrev IsOther : Wait → Type 0
-IsOther w = (batch : Batch) → w ≡ waits.Batch batch → ⊥
+passed : (P : Wait → Type 0) (b : Bool) (x y : Wait) → (P x → ⊥) → P (if b then x else y) → P y
+passed P true x y never h = absurd (never h)
+passed P false x y never h = h
 
-passed : (b : Bool) (x y : Wait) (batch : Batch) → IsOther x → (if b then x else y) ≡ waits.Batch batch → y ≡ waits.Batch batch
-passed true x y batch other e = absurd (other batch e)
-passed false x y batch other e = e
+-- with this command it is this batch
+abbrev Makes : Pairs → Batch → Wait → Type 0
+Makes command batch w = asked_wait w command ≡ waits.Batch batch
 
-kill_other : (body : Pairs) (ids : Option Items) → IsOther (kill_wait body ids)
-kill_other body None batch e = absurd cc
-kill_other body (Some ids) batch e = absurd cc
+kill_makes : (command : Pairs) (batch : Batch) (body : Pairs) (ids : Option Items) → Makes command batch (kill_wait body ids) → ⊥
+kill_makes command batch body None e = absurd cc
+kill_makes command batch body (Some ids) e = absurd cc
 
-distinct_other : (d : Option Distinct) → IsOther (distinct_kept d)
-distinct_other None batch e = absurd cc
-distinct_other (Some d) batch e = absurd cc
+distinct_makes : (command : Pairs) (batch : Batch) (d : Option Distinct) → Makes command batch (distinct_kept d) → ⊥
+distinct_makes command batch None e = absurd cc
+distinct_makes command batch (Some d) e = absurd cc
 
-last : (ids : FreshIds) (body : Pairs) (batch : Batch) → wait_of ids body ≡ waits.Batch batch
-    → other_wait ids body (write_of (name_of body)) ≡ waits.Batch batch
-last ids body batch e =
+last : (ids : FreshIds) (body command : Pairs) (batch : Batch) → Makes command batch (wait_of ids body)
+    → Makes command batch (other_wait ids body (write_of (name_of body)))
+last ids body command batch e =
     let name = name_of body in
-    let no_kill = passed (bytes_eq name (codes "killCursors")) _ _ batch (kill_other body (ids_of body)) e in
-    let no_list = passed (bytes_eq name (codes "listCollections")) _ _ batch (λ b f. absurd cc) no_kill in
-    let no_indexes = passed (bytes_eq name (codes "listIndexes")) _ _ batch (λ b f. absurd cc) no_list in
-    let no_drop = passed (bytes_eq name (codes "dropDatabase")) _ _ batch (λ b f. absurd cc) no_indexes in
-    let no_explain = passed (bytes_eq name (codes "explain")) _ _ batch (λ b f. absurd cc) no_drop in
-    let no_modification = passed (is_modification name) _ _ batch (λ b f. absurd cc) no_explain in
-    let no_distinct = passed (bytes_eq name (codes "distinct")) _ _ batch (distinct_other (distinct_of body)) no_modification in
-    passed (is_single body) _ _ batch (λ b f. absurd cc) no_distinct
+    let makes = Makes command batch in
+    let no_kill = passed makes (bytes_eq name (codes "killCursors")) _ _ (kill_makes command batch body (ids_of body)) e in
+    let no_list = passed makes (bytes_eq name (codes "listCollections")) _ _ (λ f. absurd cc) no_kill in
+    let no_indexes = passed makes (bytes_eq name (codes "listIndexes")) _ _ (λ f. absurd cc) no_list in
+    let no_drop = passed makes (bytes_eq name (codes "dropDatabase")) _ _ (λ f. absurd cc) no_indexes in
+    let no_explain = passed makes (bytes_eq name (codes "explain")) _ _ (λ f. absurd cc) no_drop in
+    let no_modification = passed makes (is_modification name) _ _ (λ f. absurd cc) no_explain in
+    let no_distinct = passed makes (bytes_eq name (codes "distinct")) _ _ (distinct_makes command batch (distinct_of body)) no_modification in
+    passed makes (is_single body) _ _ (λ f. absurd cc) no_distinct
 
-record IsOfWrite (ids : FreshIds) (body : Pairs) (write : Write) (batch : Batch) : Type 0 where
+record IsOfWrite (ids : FreshIds) (body command : Pairs) (write : Write) (batch : Batch) : Type 0 where
   named : write_of (name_of body) ≡ Some write
   ordered : Bool
-  same : batch_of write ordered ids (with_new_ids ids (Some write) (kept askeds.Write body)) ≡ batch
+  same : batch_of write ordered ids command ≡ batch
 
-of_write : (ids : FreshIds) (body : Pairs) (batch : Batch) (write : Option Write) → write_of (name_of body) ≡ write
-    → other_wait ids body write ≡ waits.Batch batch → (w : Write) × IsOfWrite ids body w batch
-of_write ids body batch None is e = absurd cc
-of_write ids body batch (Some write) is e =
+of_write : (ids : FreshIds) (body command : Pairs) (batch : Batch) (write : Option Write) → write_of (name_of body) ≡ write
+    → Makes command batch (other_wait ids body write) → (w : Write) × IsOfWrite ids body command w batch
+of_write ids body command batch None is e = absurd cc
+of_write ids body command batch (Some write) is e =
     let ordered = is_ordered_in (lookup body (codes "ordered")) in
-    let made = batch_of write ordered ids (with_new_ids ids (Some write) (kept askeds.Write body)) in
-    let several = passed (is_alone write (lookup body (field_of write))) _ _ batch (λ b f. absurd cc) e in
-    let some : waits.Batch made ≡ waits.Batch batch = passed (items_len made.left == 0) _ _ batch (λ b f. absurd cc) several in
+    let made = batch_of write ordered ids command in
+    let several = passed (Makes command batch) (is_alone write (lookup body (field_of write))) _ _ (λ f. absurd cc) e in
+    let some : waits.Batch made ≡ waits.Batch batch =
+    passed (λ (w : Wait). w ≡ waits.Batch batch) (items_len made.left == 0) _ _ (λ f. absurd cc) several in
     (write, record { named = is; ordered = ordered; same = cc })
 
 -- ---- a write is asked under its name
@@ -137,19 +147,20 @@ same_name body e =
 
 -- ---- the command that was asked first
 
-unless : (ids : FreshIds) (refused : Option (List ℕ × Reason)) (body command : Pairs) → ask_unless ids askeds.Write refused body ≡ steps.Ask command
+unless : (ids : FreshIds) (refused : Option (List ℕ × Reason)) (body command : Pairs)
+    → asked_by (ask_unless ids askeds.Write refused body) ≡ Some command
     → with_new_ids ids (write_of (name_of (kept askeds.Write body))) (kept askeds.Write body) ≡ command
 unless ids None body command e = cc
 unless ids (Some x) body command e = absurd cc
 
-question : (info : ServerInfo) (body command : Pairs) (write : Write) → write_of (name_of body) ≡ Some write → done info body ≡ steps.Ask command
-    → with_new_ids info.ids (Some write) (kept askeds.Write body) ≡ command
+question : (info : ServerInfo) (body command : Pairs) (write : Write) → write_of (name_of body) ≡ Some write → asked_by (done info body) ≡ Some command
+    → whole_write info.ids body ≡ command
 question info body command write named asked =
     let is = asked_write (name_of body) write named in
     let left = kept askeds.Write body in
-    sym (ap (λ (w : Option Write). with_new_ids info.ids w left) (ap write_of (same_name body is.stays) ∙ named))
+    sym (ap (λ (w : Option Write). with_new_ids info.ids w left) (ap write_of (same_name body is.stays)))
     ∙ unless info.ids (first_refused askeds.Write body) body command
-    (sym (ap (λ (x : Option Command). do_command x (name_of body) info body) is.forwarded) ∙ asked)
+    (sym (ap (λ (x : Option Command). asked_by (do_command x (name_of body) info body)) is.forwarded) ∙ asked)
 
 ids_name : (ids : FreshIds) (write : Option Write) (ps : Pairs) → name_of (with_new_ids ids write ps) ≡ name_of ps
 ids_name ids None ps = refl
@@ -165,12 +176,94 @@ ids_name ids (Some writes.Insert) ps = at (lookup ps (codes "documents")) refl
 
 pub asks_same_statements : AsksSameStatements
 asks_same_statements info more body command batch asked waits_for =
-    let found = of_write info.ids body batch (write_of (name_of body)) refl (last info.ids body batch waits_for) in
+    let left = kept askeds.Write body in
+    let found = of_write info.ids body (whole_write info.ids body) batch (write_of (name_of body)) refl
+    (last info.ids body (whole_write info.ids body) batch waits_for) in
     let write = found.0 in
     let is = found.1 in
-    let same = question info body command write is.named asked in
+    let same = question info body command write is.named (ap asked_by asked) in
     let whole : batch_of write is.ordered info.ids command ≡ batch =
     sym (ap (batch_of write is.ordered info.ids) same) ∙ is.same in
     let named : name_of command ≡ name_of body =
-    sym (ap name_of same) ∙ ids_name info.ids (Some write) (kept askeds.Write body) ∙ same_name body (asked_write (name_of body) write is.named).stays in
+    sym (ap name_of same) ∙ ids_name info.ids (write_of (name_of body)) left ∙ same_name body (asked_write (name_of body) write is.named).stays in
     subst (AreOfCommand info.ids command) whole (record { named = ap write_of named ∙ is.named; ordered = is.ordered; made = refl })
+
+-- ---- what is kept with what is asked
+
+abbrev Alike : Pairs → Pairs → Wait → Type 0
+Alike c d w = asked_wait w c ≡ asked_wait w d
+
+both : (P : Wait → Type 0) (b : Bool) (x y : Wait) → P x → P y → P (if b then x else y)
+both P true x y h k = h
+both P false x y h k = k
+
+kill_alike : (c d body : Pairs) (ids : Option Items) → Alike c d (kill_wait body ids)
+kill_alike c d body None = refl
+kill_alike c d body (Some ids) = refl
+
+distinct_alike : (c d : Pairs) (distinct : Option Distinct) → Alike c d (distinct_kept distinct)
+distinct_alike c d None = refl
+distinct_alike c d (Some distinct) = refl
+
+other_alike : (ids : FreshIds) (c d body : Pairs) (write : Option Write) → ((w : Write) → write ≡ Some w → c ≡ d) → Alike c d (other_wait ids body write)
+other_alike ids c d body None same = refl
+other_alike ids c d body (Some write) same =
+    let ordered = is_ordered_in (lookup body (codes "ordered")) in
+    both (Alike c d) (is_alone write (lookup body (field_of write))) waits.Write (waits.Whole write ordered ids) refl
+    (ap (λ (command : Pairs). batch_wait (batch_of write ordered ids command)) (same write refl))
+
+-- where they are no write's, it makes no difference
+wait_alike : (ids : FreshIds) (c d body : Pairs) → ((w : Write) → write_of (name_of body) ≡ Some w → c ≡ d) → Alike c d (wait_of ids body)
+wait_alike ids c d body same =
+    let name = name_of body in
+    let alike = Alike c d in
+    both alike (bytes_eq name (codes "killCursors")) _ _ (kill_alike c d body (ids_of body))
+    (both alike (bytes_eq name (codes "listCollections")) _ _ refl
+    (both alike (bytes_eq name (codes "listIndexes")) _ _ refl
+    (both alike (bytes_eq name (codes "dropDatabase")) _ _ refl
+    (both alike (bytes_eq name (codes "explain")) _ _ refl
+    (both alike (is_modification name) _ _ refl
+    (both alike (bytes_eq name (codes "distinct")) _ _ (distinct_alike c d (distinct_of body))
+    (both alike (is_single body) _ _ refl (other_alike ids c d body (write_of name) same))))))))
+
+-- whether it is heard makes no difference to what is asked
+asked_heard : (more : Bool) (step : Step) → asked_by (unheard more step) ≡ asked_by step
+asked_heard true (steps.Ask command) = refl
+asked_heard true (steps.AskOwner id command) = refl
+asked_heard true (steps.Reply reply) = refl
+asked_heard true (steps.Fail reply) = refl
+asked_heard true steps.Silent = refl
+asked_heard false (steps.Ask command) = refl
+asked_heard false (steps.AskOwner id command) = refl
+asked_heard false (steps.Reply reply) = refl
+asked_heard false (steps.Fail reply) = refl
+asked_heard false steps.Silent = refl
+
+query_asks : (command : Option Command) (info : ServerInfo) → asked_by (do_query command info) ≡ None
+query_asks None info = refl
+query_asks (Some (commands.Forwarded asked)) info = refl
+query_asks (Some (commands.Own owns.Hello)) info = refl
+query_asks (Some (commands.Own owns.IsMaster)) info = refl
+query_asks (Some (commands.Own owns.BuildInfo)) info = refl
+query_asks (Some (commands.Own owns.Session)) info = refl
+query_asks (Some (commands.Own owns.Login)) info = refl
+
+pub keeps_first : (info : ServerInfo) (message : Message) (command : Pairs) → asked_by (started info message) ≡ Some command
+    → with_asked (first_plan info.ids message) command ≡ plan_of info.ids message
+keeps_first info message command e =
+    at message.form message.body (sym (asked_heard message.more_to_come (do_message message.form info message.body)) ∙ e)
+  where
+    with_same : (body : Pairs) → ((w : Write) → write_of (name_of body) ≡ Some w → command ≡ whole_write info.ids body)
+        → with_asked (first_plan_for info.ids message.more_to_come body) command ≡ plan_for info.ids message.more_to_come body
+    with_same body same =
+        ap (λ (w : Wait). record (first_plan_for info.ids message.more_to_come body) { wait = w })
+        (wait_alike info.ids command (whole_write info.ids body) body same)
+
+    at : (form : Form) (body : Result Pairs BodyFault) → asked_by (do_message form info body) ≡ Some command
+        → with_asked (first_plan_in info.ids message.more_to_come body) command ≡ plan_in info.ids message.more_to_come body
+    at form (Err fault) e = with_same no_pairs (λ w f. absurd cc)
+    at forms.Message (Ok body) e = with_same body (λ w named. sym (question info body command w named e))
+    at forms.Query (Ok body) e = absurd cc
+    at forms.Command (Ok body) e =
+        let never : None ≡ Some command = sym (query_asks (command_of (name_of body)) info) ∙ e in
+        absurd cc

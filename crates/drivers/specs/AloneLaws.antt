@@ -10,24 +10,21 @@ use Rattle.driver_replies.specs.Cursors.{ids_of, first_id, after}
 use Rattle.driver_replies.specs.Distinct.{distinct_of, documents_in, with_documents}
 use Rattle.driver_replies.specs.Dropping.{drop_command, is_gone}
 use Rattle.driver_replies.specs.Listing.{batch_in}
-use Rattle.driver_replies.specs.NewIds.{with_new_ids}
 use Rattle.driver_replies.specs.WriteErrors.{refused_statement}
-use Rattle.driver_replies.specs.Writes.{write_of, field_of, is_alone, is_ordered_in, batch_of}
+use Rattle.driver_replies.specs.Writes.{write_of, field_of, is_alone, batch_of}
 use Rattle.driver_replies.specs.Writes.{next_command, after_reply}
 use Rattle.driver_replies.specs.declared.batch.Batch.{Batch}
 use Rattle.driver_replies.specs.declared.distinct.Distinct.{Distinct}
 use Rattle.driver_replies.specs.declared.fresh_ids.FreshIds.{FreshIds}
 use Rattle.driver_replies.specs.declared.kills.Kills.{Kills}
 use Rattle.driver_replies.specs.declared.writes.Write.{Write}
-use Rattle.drivers.specs.Answering.{kill_wait, batch_wait, other_wait, distinct_kept}
-use Rattle.drivers.specs.Answering.{is_modification}
-use Rattle.drivers.specs.Answering.{is_single, wait_of, plan_in, plan_of, reworded, final}
+use Rattle.drivers.specs.Answering.{kill_wait, other_wait, distinct_kept, asked_wait, with_asked}
+use Rattle.drivers.specs.Answering.{is_modification, first_plan_in}
+use Rattle.drivers.specs.Answering.{is_single, wait_of, first_plan, reworded, final}
 use Rattle.drivers.specs.Answering.{cursor_left, end_cursor, kill_next, killed, next_statement}
 use Rattle.drivers.specs.Answering.{whole_step, drop_next, drop_step, drop_listed, distinct_next}
 use Rattle.drivers.specs.Answering.{distinct_on, asks_alone, answered_by, answered}
-use Rattle.driver_fields.specs.Cleaning.{kept}
 use Rattle.drivers.specs.Starting.{name_of}
-use Rattle.driver_fields.specs.declared.command.Asked.TheVariants as askeds
 use Rattle.driver_messages.specs.declared.message.BodyFault.{BodyFault}
 use Rattle.driver_messages.specs.declared.message.Message.{Message}
 use Rattle.drivers.specs.declared.plan.Plan.{Plan}
@@ -43,10 +40,10 @@ is_later other = false
 
 -- ---- no message begins with a later question
 
-if_first : (b : Bool) (x y : Wait) → is_later x ≡ false → is_later y ≡ false
-    → is_later (if b then x else y) ≡ false
-if_first true x y h k = h
-if_first false x y h k = k
+neither : (f : Wait → Bool) (b : Bool) (x y : Wait) → f x ≡ false → f y ≡ false
+    → f (if b then x else y) ≡ false
+neither f true x y h k = h
+neither f false x y h k = k
 
 kill_first : (body : Pairs) (ids : Option Items) → is_later (kill_wait body ids) ≡ false
 kill_first body None = refl
@@ -56,41 +53,61 @@ distinct_first : (d : Option Distinct) → is_later (distinct_kept d) ≡ false
 distinct_first None = refl
 distinct_first (Some d) = refl
 
-batch_first : (batch : Batch) → is_later (batch_wait batch) ≡ false
-batch_first batch = if_first (items_len batch.left == 0) waits.Plain (waits.Batch batch) refl refl
-
 other_first : (ids : FreshIds) (body : Pairs) (write : Option Write)
     → is_later (other_wait ids body write) ≡ false
 other_first ids body None = refl
 other_first ids body (Some write) =
-    let is_ordered = is_ordered_in (lookup body (codes "ordered")) in
-    let command = with_new_ids ids (Some write) (kept askeds.Write body) in
-    let batch = batch_of write is_ordered ids command in
-    if_first (is_alone write (lookup body (field_of write))) waits.Write (batch_wait batch) refl
-    (batch_first batch)
+    neither is_later (is_alone write (lookup body (field_of write))) waits.Write _ refl refl
 
 wait_first : (ids : FreshIds) (body : Pairs) → is_later (wait_of ids body) ≡ false
 wait_first ids body =
-    if_first (bytes_eq name (codes "killCursors")) _ _ (kill_first body (ids_of body))
-    (if_first (bytes_eq name (codes "listCollections")) _ _ refl
-    (if_first (bytes_eq name (codes "listIndexes")) _ _ refl
-    (if_first (bytes_eq name (codes "dropDatabase")) _ _ refl
-    (if_first (bytes_eq name (codes "explain")) _ _ refl
-    (if_first (is_modification name) _ _ refl
-    (if_first (bytes_eq name (codes "distinct")) _ _ (distinct_first (distinct_of body))
-    (if_first (is_single body) _ _ refl (other_first ids body (write_of name)))))))))
+    neither is_later (bytes_eq name (codes "killCursors")) _ _ (kill_first body (ids_of body))
+    (neither is_later (bytes_eq name (codes "listCollections")) _ _ refl
+    (neither is_later (bytes_eq name (codes "listIndexes")) _ _ refl
+    (neither is_later (bytes_eq name (codes "dropDatabase")) _ _ refl
+    (neither is_later (bytes_eq name (codes "explain")) _ _ refl
+    (neither is_later (is_modification name) _ _ refl
+    (neither is_later (bytes_eq name (codes "distinct")) _ _ (distinct_first (distinct_of body))
+    (neither is_later (is_single body) _ _ refl (other_first ids body (write_of name)))))))))
   where
     name : List ℕ
     name = name_of body
 
 in_first : (ids : FreshIds) (more : Bool) (body : Result Pairs BodyFault)
-    → is_later (plan_in ids more body).wait ≡ false
+    → is_later (first_plan_in ids more body).wait ≡ false
 in_first ids more (Ok body) = wait_first ids body
 in_first ids more (Err fault) = wait_first ids no_pairs
 
 pub starts_first : (ids : FreshIds) (message : Message)
-    → is_later (plan_of ids message).wait ≡ false
+    → is_later (first_plan ids message).wait ≡ false
 starts_first ids message = in_first ids message.more_to_come message.body
+
+-- ---- what is asked makes none of it
+
+asked_alike : (w : Wait) (command : Pairs) → asks_alone (asked_wait w command) ≡ asks_alone w
+asked_alike waits.Plain command = refl
+asked_alike waits.Single command = refl
+asked_alike (waits.Ended answer) command = refl
+asked_alike waits.Write command = refl
+asked_alike (waits.Whole write ordered ids) command =
+    let batch = batch_of write ordered ids command in
+    neither asks_alone (items_len batch.left == 0) waits.Plain (waits.Batch batch) refl refl
+asked_alike (waits.Batch batch) command = refl
+asked_alike (waits.Statement batch) command = refl
+asked_alike waits.Listed command = refl
+asked_alike (waits.Drops ts) command = refl
+asked_alike (waits.Kill kills) command = refl
+asked_alike (waits.Collections wanted) command = refl
+asked_alike waits.Indexes command = refl
+asked_alike waits.Explained command = refl
+asked_alike (waits.Found m) command = refl
+asked_alike (waits.Changed m was) command = refl
+asked_alike (waits.Again m is_new subject) command = refl
+asked_alike (waits.Distinct d) command = refl
+
+pub stays_asked : (plan : Plan) (command : Pairs)
+    → asks_alone (with_asked plan command).wait ≡ asks_alone plan.wait
+stays_asked plan command = asked_alike plan.wait command
 
 -- ---- what is one behind a reply was one before it
 
@@ -159,6 +176,7 @@ by_wait waits.Single plan reply e =
     (single_rests (cursor_left reply) plan reply) e
 by_wait (waits.Ended answer) plan reply e = absurd cc
 by_wait waits.Write plan reply e = absurd cc
+by_wait (waits.Whole write ordered ids) plan reply e = absurd cc
 by_wait (waits.Batch batch) plan reply e =
     never (waits.Batch batch) plan reply
     (whole_rests (refused_statement (lookup reply (codes "code"))) plan batch reply) e

@@ -44,7 +44,8 @@ use Rattle.drivers.specs.declared.plan.Wait.TheVariants as waits
 use Rattle.drivers.specs.declared.step.Step.{Step}
 use Rattle.drivers.specs.declared.step.Step.TheVariants as steps
 
--- ---- a plan: what is kept of a message until the database has answered
+-- ---- a plan: what is kept of a message until the database has answered. First without what is
+-- asked.
 
 -- what is kept of the cursors that a killCursors names
 abbrev pub kill_wait : Pairs → Option Items → Wait
@@ -70,17 +71,11 @@ is_single body = if bytes_eq (name_of body) (codes "find")
     then is_true (lookup body (codes "singleBatch"))
     else false
 
--- Statements that may be asked one after the other are kept with the command, where there are any.
-abbrev pub batch_wait : Batch → Wait
-batch_wait batch = if items_len batch.left == 0 then waits.Plain else waits.Batch batch
-
+-- Of statements that may be asked one after the other only this is kept before they are asked.
 abbrev pub write_wait : FreshIds → Pairs → Write → Wait
 write_wait ids body write =
     if is_alone write (lookup body (field_of write)) then waits.Write else
-    batch_wait (
-    batch_of write (is_ordered_in (lookup body (codes "ordered"))) ids
-    (with_new_ids ids (Some write) (kept askeds.Write body))
-    )
+    waits.Whole write (is_ordered_in (lookup body (codes "ordered"))) ids
 
 abbrev pub other_wait : FreshIds → Pairs → Option Write → Wait
 other_wait ids body None = waits.Plain
@@ -103,14 +98,42 @@ wait_of ids body =
     if is_single body then waits.Single else
     other_wait ids body (write_of (name_of body))
 
-abbrev pub plan_for : FreshIds → Bool → Pairs → Plan
-plan_for ids more body = record {
+abbrev pub first_plan_for : FreshIds → Bool → Pairs → Plan
+first_plan_for ids more body = record {
   more_to_come = more;
   database = text_or_none (lookup body (codes "$db"));
   collection = collection_of body;
   is_update = bytes_eq (name_of body) (codes "update");
   wait = wait_of ids body;
 }
+
+abbrev pub first_plan_in : FreshIds → Bool → Result Pairs BodyFault → Plan
+first_plan_in ids more (Ok body) = first_plan_for ids more body
+first_plan_in ids more (Err fault) = first_plan_for ids more no_pairs
+
+abbrev pub first_plan : FreshIds → Message → Plan
+first_plan ids message = first_plan_in ids message.more_to_come message.body
+
+-- ---- and then with what was asked, where its statements may be asked one after the other
+
+-- Statements are kept with the command, where there are any.
+abbrev pub batch_wait : Batch → Wait
+batch_wait batch = if items_len batch.left == 0 then waits.Plain else waits.Batch batch
+
+abbrev pub asked_wait : Wait → Pairs → Wait
+asked_wait (waits.Whole write ordered ids) command =
+    batch_wait (batch_of write ordered ids command)
+asked_wait other command = other
+
+abbrev pub with_asked : Plan → Pairs → Plan
+with_asked plan command = record plan { wait = asked_wait plan.wait command }
+
+-- what is asked as a whole of a write
+abbrev pub whole_write : FreshIds → Pairs → Pairs
+whole_write ids body = with_new_ids ids (write_of (name_of body)) (kept askeds.Write body)
+
+abbrev pub plan_for : FreshIds → Bool → Pairs → Plan
+plan_for ids more body = with_asked (first_plan_for ids more body) (whole_write ids body)
 
 abbrev pub plan_in : FreshIds → Bool → Result Pairs BodyFault → Plan
 plan_in ids more (Ok body) = plan_for ids more body
@@ -374,6 +397,9 @@ answered_by waits.Write plan reply = (
   record plan { wait = waits.Plain },
   error_step (refused_statement (lookup reply (codes "code"))) plan reply,
 )
+-- (it wasn't asked, so no reply is to it)
+answered_by (waits.Whole write ordered ids) plan reply =
+    (record plan { wait = waits.Plain }, final plan reply)
 answered_by (waits.Batch batch) plan reply =
     whole_step (refused_statement (lookup reply (codes "code"))) plan batch reply
 answered_by (waits.Statement batch) plan reply =

@@ -6,7 +6,7 @@ use Rattle.std.specs.Prelude.{is_none, Some, None, Ok}
 use Rattle.bson.specs.Tree.{Tree, Pairs, pair, append}
 use Rattle.driver_messages.specs.declared.message.Form.TheVariants as forms
 use Rattle.driver_messages.specs.declared.message.Message.{Message}
-use Rattle.drivers.specs.Answering.{answered, plan_of}
+use Rattle.drivers.specs.Answering.{answered, first_plan, plan_of, with_asked}
 use Rattle.driver_fields.specs.Cleaning.{is_kept, field_fault, first_refused}
 use Rattle.driver_fields.specs.Commands.{command_of}
 use Rattle.drivers.specs.Laws.{asked_by}
@@ -21,7 +21,15 @@ use Rattle.drivers.specs.declared.server_info.ServerInfo.{ServerInfo}
 use Rattle.drivers.specs.declared.step.Step.{Step}
 use Rattle.drivers.specs.declared.step.Step.TheVariants as steps
 
--- what is kept of a message, and what is done first with it
+-- What is kept before a question is asked, with the question. Behind a reply no more of it is kept.
+pub record KeepsWhatIsAsked : Type 0 where
+  pub first : (info : ServerInfo) (message : Message) (command : Pairs)
+      → asked_by (started info message) ≡ Some command
+      → with_asked (first_plan info.ids message) command ≡ plan_of info.ids message
+  pub later : (plan : Plan) (reply command : Pairs)
+      → with_asked (answered plan reply).0 command ≡ (answered plan reply).0
+
+-- what is kept of a message once it is asked, and what is done first with it
 abbrev pub begun : ServerInfo → Message → Plan × Step
 begun info message = (plan_of info.ids message, started info message)
 

@@ -87,7 +87,7 @@ fn open_id(value: Option<&Value>) -> Option<i64>
 }
 
 /// The number of the cursor that a reply leaves open.
-pub(crate) fn cursor_left(reply: &Document) -> Option<i64>
+pub fn cursor_left(reply: &Document) -> Option<i64>
     ensures { result ≡ cursor_left reply.now }
 {
     match reply.get("cursor") {

@@ -1,7 +1,7 @@
 //! Laws of the definitions, as contracts.
 
 ghost use Rattle.drivers.specs.Laws.{AsksOwnFields, AsksSameStatements, IgnoredMakesNoDifference, IgnoredInEntries, IgnoredLeavesThePlan};
-ghost use Rattle.drivers.specs.Asked.{IgnoredGoesTheSame, IsHeardAsWanted, RefusedAsksNothing};
+ghost use Rattle.drivers.specs.Asked.{IgnoredGoesTheSame, IsHeardAsWanted, KeepsWhatIsAsked, RefusedAsksNothing};
 ghost use Rattle.drivers.specs.Rows.{StepRows};
 
 /// Something is asked of the database only if the command is one for it and no field of it is refused: the command without the fields
@@ -13,6 +13,11 @@ pub fn asks_own_fields()
 /// The statements of a write that are asked one by one, where the whole was refused, are those that were asked as a whole.
 pub fn asks_same_statements()
     ensures { AsksSameStatements }
+{}
+
+/// What is kept of a message is made of what was asked first, and behind a reply nothing more of what is asked is kept.
+pub fn keeps_what_is_asked()
+    ensures { KeepsWhatIsAsked }
 {}
 
 /// A field that is ignored makes no difference to what is done first.

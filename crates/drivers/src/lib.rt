@@ -13,6 +13,7 @@ mod server_info;
 mod starting;
 mod step;
 
+pub use answering::cursor_left;
 pub use driver_messages::{BodyFault, Foreign, ForeignType, Form, Incoming, Message, StreamFault};
 pub use driver_replies::{Batch, FreshIds, Kills};
 pub use framing::framed;

@@ -9,7 +9,8 @@ ghost use Rattle.driver_replies.specs.Cursors.{ids_of, first_id};
 ghost use Rattle.drivers.specs.Starting.{name_of, started};
 ghost use Rattle.driver_replies.specs.Listing.{batch_in, retold};
 ghost use Rattle.drivers.specs.declared.plan.Wait.TheVariants as waits;
-ghost use Rattle.drivers.specs.Answering.{is_single, kill_wait, collections_wait, batch_wait, write_wait, other_wait, wait_of, is_modification, plan_for, plan_in, plan_of, asks_alone, final, reworded, error_step, drop_next, drop_step, drop_listed, drop_on, next_statement, whole_step, statement_step, end_cursor, cursor_left, kill_next, killed, answered_by, answered};
+ghost use Rattle.drivers.specs.Answering.{is_single, kill_wait, collections_wait, write_wait, other_wait, wait_of, is_modification, first_plan_for, first_plan_in, first_plan, batch_wait, asked_wait, with_asked};
+ghost use Rattle.drivers.specs.Answering.{asks_alone, final, reworded, error_step, drop_next, drop_step, drop_listed, drop_on, next_statement, whole_step, statement_step, end_cursor, cursor_left, kill_next, killed, answered_by, answered};
 
 use crate::answering::{cursor_left, end, kill_command, reword, widen};
 use crate::distinct::distinct_wait;
@@ -23,8 +24,7 @@ use driver_messages::Message;
 use driver_replies::{
     Batch, Distinct, FreshIds, Kills, Modification, Part, Tally, Write, collection_of,
     drop_command, drop_first, dropped_reply, first_batch, first_id, ids_of, indexes_told, is_alone,
-    is_gone, is_ordered_in, is_true, name_in, refused_statement, retold, text_or_none,
-    with_new_ids, write_of,
+    is_gone, is_ordered_in, is_true, name_in, refused_statement, retold, text_or_none, write_of,
 };
 use std::alloc::Global;
 use std::mem;
@@ -40,6 +40,9 @@ pub enum Wait {
     Ended(Document),
     /// It makes the answer, in which the refusal of the one statement is told as drivers expect it.
     Write,
+    /// What `Batch` is to, before it is asked: the write, whether the first of its statements that is refused is the last, and the object
+    /// ids that are fresh.
+    Whole(Write, bool, FreshIds),
     /// It makes the answer, unless a statement was refused: then each of these is asked by itself.
     Batch(Batch),
     /// It is about the first of these statements.
@@ -108,35 +111,23 @@ fn is_single(body: &Document) -> bool
     false
 }
 
-/// What is kept of statements that may be asked one after the other, where there are any.
-fn batch_wait(batch: Batch) -> Wait
-    ensures { result ≡ batch_wait batch }
-{
-    if batch.left.is_empty() {
-        return Wait::Plain;
-    }
-    Wait::Batch(batch)
-}
-
 /// What the first reply to a write is to.
-fn write_wait(alloc: Global, ids: FreshIds, body: &Document, write: Write) -> Result<Wait, NoMemory>
-    ensures { IfOk result (λ w. w ≡ write_wait ids body.now write) }
+fn write_wait(ids: FreshIds, body: &Document, write: Write) -> Wait
+    ensures { result ≡ write_wait ids body.now write }
 {
     if is_alone(write, body.get(write.field())) {
-        return Ok(Wait::Write);
+        return Wait::Write;
     }
-    let is_ordered = is_ordered_in(body.get("ordered"));
-    let command = with_new_ids(alloc, ids, Some(write), kept(Asked::Write, body.copy()?))?;
-    Ok(batch_wait(Batch::new(alloc, write, is_ordered, ids, command)))
+    Wait::Whole(write, is_ordered_in(body.get("ordered")), ids)
 }
 
 /// What the first reply to a command is to that may be a write.
-fn other_wait(alloc: Global, ids: FreshIds, body: &Document) -> Result<Wait, NoMemory>
-    ensures { IfOk result (λ w. w ≡ other_wait ids body.now (write_of (name_of body.now))) }
+fn other_wait(ids: FreshIds, body: &Document) -> Wait
+    ensures { result ≡ other_wait ids body.now (write_of (name_of body.now)) }
 {
     match write_of(name_of(body)) {
-        Some(write) => write_wait(alloc, ids, body, write),
-        None => Ok(Wait::Plain),
+        Some(write) => write_wait(ids, body, write),
+        None => Wait::Plain,
     }
 }
 
@@ -176,16 +167,17 @@ fn wait_of(alloc: Global, ids: FreshIds, body: &Document) -> Result<Wait, NoMemo
     if is_single(body) {
         return Ok(Wait::Single);
     }
-    other_wait(alloc, ids, body)
+    Ok(other_wait(ids, body))
 }
 
-fn plan_for(
+/// What is kept of a command until it is asked.
+fn first_plan_for(
     alloc: Global,
     ids: FreshIds,
     more_to_come: bool,
     body: &Document,
 ) -> Result<Plan, NoMemory>
-    ensures { IfOk result (λ p. p ≡ plan_for ids more_to_come body.now) }
+    ensures { IfOk result (λ p. p ≡ first_plan_for ids more_to_come body.now) }
 {
     let database = Text::from_str(alloc, text_or_none(body.get("$db")))?;
     let collection = Text::from_str(alloc, collection_of(body))?;
@@ -199,26 +191,48 @@ fn plan_for(
     })
 }
 
-fn plan_of(alloc: Global, ids: FreshIds, message: &Message) -> Result<Plan, NoMemory>
-    ensures { IfOk result (λ p. p ≡ plan_of ids message.now) }
+fn first_plan(alloc: Global, ids: FreshIds, message: &Message) -> Result<Plan, NoMemory>
+    ensures { IfOk result (λ p. p ≡ first_plan ids message.now) }
 {
     match &message.body {
-        Ok(body) => plan_for(alloc, ids, message.more_to_come, body),
-        Err(_) => plan_for(alloc, ids, message.more_to_come, &Document::new(alloc)),
+        Ok(body) => first_plan_for(alloc, ids, message.more_to_come, body),
+        Err(_) => first_plan_for(alloc, ids, message.more_to_come, &Document::new(alloc)),
+    }
+}
+
+/// What is kept of statements that may be asked one after the other, where there are any.
+fn batch_wait(batch: Batch) -> Wait
+    ensures { result ≡ batch_wait batch }
+{
+    if batch.left.is_empty() {
+        return Wait::Plain;
+    }
+    Wait::Batch(batch)
+}
+
+/// What the reply is to, once this was asked.
+fn asked_wait(alloc: Global, wait: Wait, command: Document) -> Wait
+    ensures { result ≡ asked_wait wait command }
+{
+    match wait {
+        Wait::Whole(write, is_ordered, ids) => {
+            batch_wait(Batch::new(alloc, write, is_ordered, ids, command))
+        }
+        other => other,
     }
 }
 
 impl Plan {
-    /// What is done first with a message, and what is kept of it until the database has answered. It fails for want of memory alone.
+    /// What is done first with a message, and what is kept of it until that is asked. It fails for want of memory alone.
     pub fn start(
         alloc: Global,
         info: &ServerInfo,
         message: Message,
     ) -> Result<(Plan, Step), NoMemory>
         ensures { IfOk result
-            (λ x. (x.0 ≡ plan_of info.now.ids message) × (x.1 ≡ started info.now message)) }
+            (λ x. (x.0 ≡ first_plan info.now.ids message) × (x.1 ≡ started info.now message)) }
     {
-        let plan = match plan_of(alloc, info.ids, &message) {
+        let plan = match first_plan(alloc, info.ids, &message) {
             Ok(plan) => plan,
             Err(fault) => {
                 drop(message);
@@ -232,6 +246,14 @@ impl Plan {
                 Err(fault)
             }
         }
+    }
+
+    /// The database was asked this: what of it is kept until the answer.
+    pub fn keep(&mut self, alloc: Global, command: Document)
+        ensures { self.new ≡ with_asked self.old command }
+    {
+        let wait = mem::replace(&mut self.wait, Wait::Plain);
+        self.wait_for(asked_wait(alloc, wait, command));
     }
 
     /// Whether nobody else may ask the database before the answer.
@@ -425,7 +447,8 @@ impl Plan {
         self.final_step(alloc, reply)
     }
 
-    /// What is done where the database was asked and answered so. It fails for want of memory alone, and then the plan is of no use.
+    /// What is done where the database was asked, which the plan was told (`keep`), and answered so. It fails for want of memory alone,
+    /// and then the plan is of no use.
     pub fn answer(&mut self, alloc: Global, reply: Document) -> Result<Step, NoMemory>
         ensures { IfOk result (λ s. (self.new, s) ≡ answered self.old reply) }
     {
@@ -434,6 +457,7 @@ impl Plan {
             Wait::Single => self.end_cursor(alloc, reply),
             Wait::Ended(answer) => self.final_step(alloc, answer),
             Wait::Write => self.error_step(alloc, reply),
+            Wait::Whole(..) => self.final_step(alloc, reply),
             Wait::Batch(batch) => self.whole(alloc, batch, reply),
             Wait::Statement(batch) => self.statement(alloc, batch, reply),
             Wait::Listed => self.drop_listed(alloc, reply),

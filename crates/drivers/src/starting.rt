@@ -227,7 +227,7 @@ pub(crate) fn unheard(more_to_come: bool, step: Step) -> Step
     }
 }
 
-/// What is done first with a message: of an answer that is no step memory ran out.
+/// What is done first with a message. It fails for want of memory alone.
 pub(crate) fn start(alloc: Global, info: &ServerInfo, message: Message) -> Result<Step, NoMemory>
     ensures { IfOk result (λ s. s ≡ started info.now message) }
 {

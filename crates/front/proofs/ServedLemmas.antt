@@ -8,10 +8,12 @@ use Rattle.driver_messages.specs.declared.message.Form.{Form}
 use Rattle.driver_messages.specs.declared.message.Message.{Message}
 use Rattle.driver_messages.specs.declared.stream_fault.StreamFault.{StreamFault}
 use Rattle.driver_messages.proofs.CuttingLaws.{taken_in_order}
-use Rattle.drivers.specs.Answering.{answered}
+use Rattle.drivers.specs.Answering.{answered, first_plan, with_asked}
 use Rattle.drivers.specs.Asked.{after_replies, begun}
 use Rattle.drivers.specs.Framing.{framed}
 use Rattle.drivers.specs.Laws.{asked_by}
+use Rattle.drivers.specs.Starting.{started}
+use Rattle.drivers.proofs.AskedLaws.{keeps_what_is_asked}
 use Rattle.drivers.specs.declared.plan.Plan.{Plan}
 use Rattle.drivers.specs.declared.server_info.ServerInfo.{ServerInfo}
 use Rattle.drivers.specs.declared.step.Step.{Step}
@@ -19,7 +21,7 @@ use Rattle.drivers.specs.declared.step.Step.TheVariants as steps
 use Rattle.driver_sockets.specs.Replying.{Begins, Follows, GoesOn, HasAnswer, IsClosed, TakesReply, WaitsOrCloses}
 use Rattle.driver_sockets.specs.Replying.{closed, question_by, resting, to_ask, told}
 use Rattle.op_msg.specs.ReplyNumbers.{next_number}
-use Rattle.driver_sockets.specs.Questions.{waiting}
+use Rattle.driver_sockets.specs.Questions.{kept_plan, waiting}
 use Rattle.front.specs.Served.{Worked, standing, answer_behind, messages_of, number_behind, last_number, answers_of, AreReplies, AllAreReplies, IsReplyTo}
 use Rattle.front.specs.Served.{HaveEnded, IsWorkedOn, Stand, IsServed, ServerTurn}
 use Rattle.driver_sockets.specs.Serving.{fed, fresh}
@@ -113,11 +115,12 @@ module _ {D : Type 0} (turns : List (ServerTurn D)) (n : ℕ) where
 
   -- ---- a message goes on
 
-  pub goes_on : (bytes : List ℕ) (given : List (List ℕ)) (w : Worked) (earlier : List Worked) (old new : Socket) (rest : List ℕ)
+  pub goes_on : (bytes : List ℕ) (given : List (List ℕ)) (w : Worked) (earlier : List Worked) (old new : Socket) (rest : List ℕ) (plan : Plan)
       → Stands bytes (messages_of (w ∷ earlier)) rest → (old.is_over ≡ false → old.incoming ≡ rest) → AllAreReplies turns n (w ∷ earlier)
       → HaveEnded earlier → old.job ≡ None → old.answer ≡ None → given ≡ answers_of earlier → old.last_reply ≡ last_number earlier
-      → Follows old w.message.form w.message.number (standing w) new → Story bytes given (w ∷ earlier) new
-  goes_on bytes given w earlier old new rest begins waits replies ended free none answers numbered follows = at (question_by step) refl follows
+      → ((question : Question) → question_by (standing w).1 ≡ Some question → with_asked plan question.command ≡ (standing w).0)
+      → Follows old w.message.form w.message.number (plan, (standing w).1) new → Story bytes given (w ∷ earlier) new
+  goes_on bytes given w earlier old new rest plan begins waits replies ended free none answers numbered kept follows = at (question_by step) refl follows
     where
       form : Form
       form = w.message.form
@@ -144,7 +147,7 @@ module _ {D : Type 0} (turns : List (ServerTurn D)) (n : ℕ) where
       same_number e = ap (number_behind last) e
 
       asks : (question : Question) → question_by step ≡ Some question
-          → Story bytes given (w ∷ earlier) (record old { job = Some (to_ask form number (standing w).0 question) })
+          → Story bytes given (w ∷ earlier) (record old { job = Some (to_ask form number plan question) })
       asks question e =
           let unframed = asks_unframed step question form (next_number last) number e in
           record {
@@ -152,7 +155,7 @@ module _ {D : Type 0} (turns : List (ServerTurn D)) (n : ℕ) where
             begins = begins;
             waits = waits;
             replies = replies;
-            stand = (record { form = refl; number = refl; plan = refl; question = question; next = e; at = refl }, ended);
+            stand = (record { form = refl; number = refl; plan = kept question e; question = question; next = e; at = refl }, ended);
             answers = given_before ∙ sym (no_more unframed);
             numbered = numbered ∙ sym (same_number unframed);
             quiet = inr none;
@@ -192,7 +195,7 @@ module _ {D : Type 0} (turns : List (ServerTurn D)) (n : ℕ) where
       ends None is e h = subst (Story bytes given (w ∷ earlier)) (sym h) (ends_unanswered (sym framed_as ∙ is) e)
       ends (Some frame) is e h = ends_answered frame (sym framed_as ∙ is) e h.ready h.rest
 
-      at : (q : Option Question) → question_by step ≡ q → GoesOn old form number (standing w).0 step q new → Story bytes given (w ∷ earlier) new
+      at : (q : Option Question) → question_by step ≡ q → GoesOn old form number plan step q new → Story bytes given (w ∷ earlier) new
       at (Some question) e h = subst (Story bytes given (w ∷ earlier)) (sym h) (asks question e)
       at None e h = ends (framed form (next_number old.last_reply) number (told step)) refl e h
 
@@ -256,13 +259,14 @@ module _ {D : Type 0} (turns : List (ServerTurn D)) (n : ℕ) where
 
   begun_one : (bytes : List ℕ) (given : List (List ℕ)) (worked : List Worked) (info : ServerInfo) (s new : Socket) (x : Message × List ℕ)
       → Story bytes given worked s → s.answer ≡ None → s.is_over ≡ false → s.job ≡ None → next_message s.incoming ≡ Ok (Some x)
-      → Follows (record s { incoming = x.1 }) x.0.form x.0.number (begun info x.0) new → Begun bytes given worked s new
+      → Follows (record s { incoming = x.1 }) x.0.form x.0.number (first_plan info.ids x.0, started info x.0) new → Begun bytes given worked s new
   begun_one bytes given worked info s new x h none unclosed free next follows = record {
     after = w ∷ worked;
-    story = goes_on bytes given w worked (record s { incoming = x.1 }) new x.1
+    story = goes_on bytes given w worked (record s { incoming = x.1 }) new x.1 (first_plan info.ids x.0)
         (stands_one bytes (messages_of worked) h.rest x.0 x.1 h.begins
         (subst (λ (b : List ℕ). next_message b ≡ Ok (Some x)) (h.waits unclosed) next))
-        (λ still. refl) (tt, h.replies) ended free none (sym (none_given given s none) ∙ h.answers) h.numbered follows;
+        (λ still. refl) (tt, h.replies) ended free none (sym (none_given given s none) ∙ h.answers) h.numbered
+        (λ question e. keeps_what_is_asked.first info x.0 question.command (asked_as (started info x.0) question e)) follows;
     same = inr free;
   }
     where
@@ -320,13 +324,15 @@ module _ {D : Type 0} (turns : List (ServerTurn D)) (n : ℕ) where
 
   reply_to : (bytes : List ℕ) (given : List (List ℕ)) (w : Worked) (earlier : List Worked) (s new : Socket) (job : Job) (reply : Pairs)
       → Story bytes given (w ∷ earlier) s → s.answer ≡ None → IsWorkedOn w job → HaveEnded earlier
-      → IsReplyTo turns n (asked_by (standing w).1) reply → Follows (resting s) job.form job.number (answered job.plan reply) new
+      → IsReplyTo turns n (asked_by (standing w).1) reply → Follows (resting s) job.form job.number (answered (kept_plan job) reply) new
       → Replied bytes given new
   reply_to bytes given w earlier s new job reply h none is ended one follows = record {
     after = next ∷ earlier;
-    story = goes_on bytes given next earlier (resting s) new h.rest h.begins h.waits
+    story = goes_on bytes given next earlier (resting s) new h.rest (standing next).0 h.begins h.waits
         (replies_more (begun w.info w.message) w.replies reply h.replies.0 one, h.replies.1) ended refl none
         (sym (none_given given s none) ∙ h.answers ∙ no_more) (h.numbered ∙ same_number)
+        (λ question e. subst (λ (x : Plan × Step). with_asked x.0 question.command ≡ x.0) there
+        (keeps_what_is_asked.later (kept_plan job) reply question.command))
         (subst (λ (f : Form). Follows (resting s) f w.message.number (standing next) new) is.form
         (subst (λ (n : ℕ). Follows (resting s) job.form n (standing next) new) is.number
         (subst (λ (x : Plan × Step). Follows (resting s) job.form job.number x new) there follows)));
@@ -335,7 +341,7 @@ module _ {D : Type 0} (turns : List (ServerTurn D)) (n : ℕ) where
       next : Worked
       next = record w { replies = w.replies ++ reply ∷ [] }
 
-      there : answered job.plan reply ≡ standing next
+      there : answered (kept_plan job) reply ≡ standing next
       there = ap (λ (p : Plan). answered p reply) is.plan ∙ sym (after_more (begun w.info w.message) w.replies reply)
 
       last : ℕ

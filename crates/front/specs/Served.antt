@@ -21,7 +21,7 @@ use Rattle.server.specs.View.{out_of, state}
 use Rattle.server.specs.declared.turn.Core.{Core}
 use Rattle.server.specs.declared.turn.TurnFault.{TurnFault}
 use Rattle.server.specs.declared.turn.TurnOut.{TurnOut}
-use Rattle.driver_sockets.specs.Questions.{question_bytes}
+use Rattle.driver_sockets.specs.Questions.{kept_plan, question_bytes}
 use Rattle.driver_sockets.specs.Lending.{borrower, loan_at}
 use Rattle.front.specs.OneSocket.{is_long}
 use Rattle.driver_sockets.specs.Replying.{long_reply, question_by, told}
@@ -133,7 +133,7 @@ IsAt question stages.Waits = Unit {0}
 pub record IsWorkedOn (w : Worked) (job : Job) : Type 0 where
   pub form : job.form ≡ w.message.form
   pub number : job.number ≡ w.message.number
-  pub plan : job.plan ≡ (standing w).0
+  pub plan : kept_plan job ≡ (standing w).0
   pub question : Question
   pub next : question_by (standing w).1 ≡ Some question
   pub at : IsAt question job.stage

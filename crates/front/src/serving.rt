@@ -59,7 +59,7 @@ fn ask_question<D: Disk>(
     match ask(core, id, &question.command) {
         Ok(()) => {
             lending.lend(id, loan_of(number, question));
-            socket.wait();
+            socket.wait(core.allocator());
             Ok(())
         }
         Err(NotAsked::Long) => socket.refuse_long(core.allocator()),
