@@ -1,6 +1,6 @@
 -- The headline, said once. However a run is cut, what the crash left holds the collections after
--- some first turns of the run, and opening it finds these. Every turn that had answered at that
--- moment is one of them, and at most one turn more.
+-- some first turns of the run, and opening it finds these. Every turn whose moment had come then is
+-- one of them, and at most one turn more.
 use Rattle.std.specs.Prelude.{◌≡◌, ◌⊎◌, ℕ, ◌+◌, ◌<◌, ◌≤◌, nat_le, true, List, [], ◌∷◌, ◌++◌, length}
 use Rattle.std.specs.Prelude.{take, filter, Option, Some, None}
 use Rattle.page.specs.History.{History, KeepsWord, now, reads, LeftSince}
@@ -38,7 +38,7 @@ cut_turn (Some (i, stops.Gather)) last = []
 abbrev pub accepted : List TurnEnd → Option (ℕ × DriveFault) → Instant → List TurnEnd
 accepted ends stopped last = ends ++ cut_turn stopped last
 
--- the turns that were acknowledged by this clock, which had answered then
+-- the turns that were acknowledged by this clock: those whose moments had come then
 abbrev pub acknowledged : ℕ → List TurnEnd → List TurnEnd
 acknowledged clock ends = filter (λ e. nat_le e.at.clock clock) ends
 
